@@ -16,7 +16,8 @@ from dataclasses import dataclass
 # What may be asked, and the name of the third text that each reads. Everything else isn't run.
 COMMANDS = {
     "explain": "", "promises": "", "lint": "", "compile": "", "evidence": "", "routemap": "",
-    "replay": "scenario.json", "whatif": "scenario.json", "drain": "scenario.json", "trace": "events.json", "settle": "events.json",
+    "replay": "scenario.json", "whatif": "scenario.json", "drain": "scenario.json", "multipath": "scenario.json", "trace": "events.json",
+    "settle": "events.json",
 }
 SECONDS, WHY_SECONDS = 60, 60
 AT_ONCE = max(2, min(4, (os.cpu_count() or 2) - 1))

@@ -22,40 +22,41 @@ PLAIN = "#ffffff", "#66727f"  # the fill and the edge of what no report speaks o
 LINK = "#8c97a5"
 LETTERS = "Helvetica"
 LINE = re.compile(r"(?:router (?P<router>\S+)|session (?P<via>\S+) (?P<peer>\S+)) "
-                  r"(?:(?P<word>dead|origin|none)|(?:rank (?P<rank>[0-9]{1,20})|transit) path (?P<path>\S+(?: \S+)*))")
+                  r"(?:(?P<word>dead|origin|none)|(?:rank (?P<rank>[0-9]{1,20})|transit) "
+                  r"(?:path (?P<path>\S+(?: \S+)*)|hops [0-9]{1,20}(?: next (?P<next>\S+(?: \S+)*))?))")
 Failures = tuple[frozenset[str], Pairs, Pairs]
 NOTHING: Failures = frozenset(), frozenset(), frozenset()
-HEADS = re.compile(r"prefix [0-9./]+|(class|quiet|event|rounds|deliveries) .+|stable")
+HEADS = re.compile(r"prefix [0-9./]+|(class|quiet|event|rounds|deliveries|idle) .+|stable")
 
 
 class Report:
-    """What a report tells: of each router and each session how it stands, and by which path."""
+    """What a report tells: of each router and each session how it stands, and by which path; or, as `multipath` does, to which next hops."""
 
     def __init__(self, text: str, network: Network) -> None:
         self.prefix = ""
         self.routers: dict[str, tuple[str, Walk]] = {}
         self.sessions: dict[tuple[str, str], tuple[str, Walk]] = {}
+        # each step to a next hop with its line and how it stands: a router's, and a peer's into what it is offered
+        self.ways: dict[Walk, tuple[str, str]] = {}
         for number, line in enumerate(text.splitlines(), 1):
             found = LINE.fullmatch(line)
             if found:
-                names = [name for name in (found["router"], found["via"], found["peer"]) if name] + (found["path"] or "").split()
+                nexts = (found["next"] or "").split()
+                names = [name for name in (found["router"], found["via"], found["peer"]) if name] + (found["path"] or "").split() + nexts
                 if not all(name in network.place for name in names):
                     raise Fault(f"line {number} of the report names what isn't in the topology")
                 stands = found["word"] or (f"rank {found['rank']}" if found["rank"] else "transit")
                 path = tuple((found["path"] or "").split())
                 if found["router"]:
                     self.routers[found["router"]] = stands, path
+                    self.ways |= {(found["router"], name): ("hop", stands) for name in nexts or path[1:2]}
                 else:
                     self.sessions[found["via"], found["peer"]] = stands, path
+                    self.ways |= {(found["peer"], found["via"]): ("offer", stands)} if not found["word"] else {}
             elif not HEADS.fullmatch(line):
-                raise Fault(f"line {number} of the report is none of replay, trace, settle or audit")
+                raise Fault(f"line {number} of the report is none of replay, trace, settle, audit or multipath")
             elif line.startswith("prefix "):
                 self.prefix = line[7:]
-
-    def steps(self) -> dict[Walk, tuple[str, str]]:
-        """Each step to a next hop with its line and how it stands: a router's along its path, and a peer's into what it is offered."""
-        offers = {path[:2]: ("offer", stands) for stands, path in self.sessions.values() if len(path) > 1}
-        return offers | {path[:2]: ("hop", stands) for stands, path in self.routers.values() if len(path) > 1}
 
     def offers(self, peer: str) -> list[tuple[str, str]]:
         """How the peer stands at each of its routers, best first."""
@@ -125,7 +126,7 @@ def drawing(network: Network, report: Report | None = None, down: Failures = NOT
     dead, cut, silent = down
     stands = {name: said for name, (said, _) in report.routers.items()} if report else {}
     dead = dead | {name for name, said in stands.items() if said == "dead"}
-    steps = report.steps() if report else {}
+    steps = report.ways if report else {}
     yield "digraph network {"
     said = {"label": report.prefix if report else "", "labelloc": "t", "fontname": LETTERS}
     yield f"  graph {attributes(layout='neato', overlap='false', splines='true', sep='+12', **said)};"

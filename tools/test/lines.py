@@ -31,6 +31,10 @@ def session(name: str, peer: str, state: str, rank: int = 0, path: str = "") -> 
     return {"sessions": [[name, peer, state, rank, path.split()]]}
 
 
+def sends(name: str, state: str, rank: int = 0, hops: int = 0, after: str = "") -> dict[str, Any]:
+    return {"routers": [[name, state, rank, hops, after.split()]]}
+
+
 ROWS = (
     Row("report", "prefix 198.51.100.0/24", {"prefix": "198.51.100.0/24"}),
     Row("report", "class 1", {"class": "1"}),
@@ -75,6 +79,17 @@ ROWS = (
     Row("free", "free link R2 R1", {"free": ["R1~R2"]}),
     Row("free", "free router R3", {"free": ["R3"]}),
     Row("free", "free 2 of 6", {"last": "free 2 of 6"}),
+    Row("spread", "prefix 198.51.100.0/24"),
+    Row("spread", "class 1"),
+    Row("spread", "router R1 dead", sends("R1", "dead")),
+    Row("spread", "router R1 origin", sends("R1", "origin")),
+    Row("spread", "router R1 none", sends("R1", "none")),
+    Row("spread", "router R1 rank 12 hops 2 next R2 R3", sends("R1", "rank", 12, 2, "R2 R3")),
+    Row("spread", "router R1 transit hops 1 next R2 R3", sends("R1", "transit", 0, 1, "R2 R3")),
+    Row("spread", "session R1 P1 rank 1 hops 3", {"sessions": [["R1", "P1", "rank", 1, 3, []]]}),
+    Row("spread", "session R1 P1 none", {"sessions": [["R1", "P1", "none", 0, 0, []]]}),
+    Row("spread", "idle link R2 R1", {"idle": ["R1~R2"]}),
+    Row("spread", "idle 1 of 5", {"last": "idle 1 of 5"}),
 )
 
 

@@ -48,10 +48,12 @@ class Lines(unittest.TestCase):
         """FORMATS names each form of a report and of promises in a table; names and numbers there stand for any."""
         with open(PAGE, encoding="utf-8") as file:
             page = file.read()
-        for reader, head in ("report", "The report of an outcome"), ("promises", "Promises"), ("free", "What is free"):
+        for reader, head in (("report", "The report of an outcome"), ("promises", "Promises"), ("free", "What is free"),
+                             ("spread", "Where packets go")):
             table = page.partition(f"\n## {head}\n")[2].partition("\n## ")[0]
             cells = re.findall(r"^\| ((?:`[^`]+`(?:, )?)+)[^|]*\|", table, re.M)
             for form in re.findall(r"`([^`]+)`", " ".join(cells)):
+                form = form.removesuffix(" ..")
                 self.assertTrue(any(is_of(row, form) for row in rows(reader)) or form in ("prefix P", "class N"), (reader, form))
 
 

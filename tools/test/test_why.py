@@ -187,13 +187,19 @@ class Picture(unittest.TestCase):
         texts = [example("cookbook", name) for name in ("abilene.json", "exits-world-west-silent.stdout", "world-west-silent.json")]
         self.assertEqual(ended("picture", *texts), (0, text_of(example("cookbook", "exits-world-west-silent.dot")), ""))
 
+    def test_several_next_hops(self):
+        texts = [example("diamond", name) for name in ("topology.json", "multipath.stdout")]
+        self.assertEqual(ended("picture", *texts), (0, text_of(example("diamond", "multipath.dot")), ""))
+        arrows = [line for line in text_of(example("diamond", "multipath.dot")).splitlines() if line.startswith('  "C" -> ')]
+        self.assertEqual(len(arrows), 2)
+
     def test_every_report_of_examples(self):
         folder = os.path.join(TOP, "examples")
         names = [os.path.join(at, name) for at, _, found in os.walk(folder) for name in found if name.endswith(".args")]
         drawn = 0
         for name in sorted(names):
             words = text_of(name).split()
-            if words[0] in ("replay", "trace", "audit") and not os.path.exists(name[:-5] + ".status"):
+            if words[0] in ("replay", "trace", "audit", "multipath") and not os.path.exists(name[:-5] + ".status"):
                 text = picture.text_for([os.path.join(os.path.dirname(name), words[1]), name[:-5] + ".stdout"])
                 self.assertEqual((text.splitlines()[0], text.splitlines()[-1]), ("digraph network {", "}"), name)
                 drawn += 1

@@ -17,5 +17,6 @@ mod report;
 mod text;
 mod told;
 
+pub use members::is_member;
 pub use report::multipath;
 pub use text::multipath_text;

@@ -1,15 +1,11 @@
 //! The lines of routers and sessions, and of idle links. Each `push_` function adds a text to the end of another.
-ghost use Rattle.std.specs.Prelude.{◌≡◌, ◌++◌, ◌≤◌, IfOk, None, OnOk, Some, if◌then◌else◌, length, option_map};
+ghost use Rattle.std.specs.Prelude.{◌≡◌, ◌++◌, IfOk, OnOk, Some, length, option_map};
 ghost use Rattle.std.specs.List.{flat_map};
-ghost use Rattle.std.specs.Option.{ForSome};
 ghost use Rattle.net_base.specs.Locations.{numbers_below};
 ghost use Rattle.net_base.specs.Sets.{holds};
 ghost use Rattle.location_names.specs.Neighbours.{is_held};
-ghost use Rattle.policy_base.specs.declared.limits.TheConstants.{ALTERNATIVES};
-ghost use Rattle.policy_base.specs.Meaning.{alternative_count};
 ghost use Rattle.policy_base.specs.Policies.{policy_of};
-ghost use Rattle.outcome_report.specs.Claims.{sources_of, statement_in};
-ghost use Rattle.outcome_report.specs.Lines.{rank_by};
+ghost use Rattle.outcome_report.specs.Claims.{sources_of};
 ghost use Rattle.multipath_report.specs.Texts.{count_line, idle_line, offer_text, sends_text, state_text};
 ghost use Rattle.multipath_report.specs.Told.{IsTold, net_in, router_line_in, session_line_in, shown_in, statement_for};
 
@@ -17,22 +13,10 @@ use crate::parts::{push_hops, push_rank, push_set};
 use crate::told::Told;
 use input_output::NoMemory;
 use net_base::{Loc, Net};
-use outcome_report::{Claims, push_next, push_source, with_front};
+use outcome_report::{push_next, push_source, with_front};
 use scenarios::Situation;
 use std::alloc::{AllocError, Global};
 use text_parts::{push_bytes, push_number};
-
-/// The rank of a router's path, where the router is claimed.
-fn claimed_rank(net: &Net, claims: &Claims<'_>, at: Loc, path: &[Loc]) -> Option<u32>
-    requires { ForSome (statement_in claims.now) (λ s. alternative_count s.ranked ≤ ALTERNATIVES) }
-    ensures { result ≡ (if holds claims.now.routers at then rank_by net.now (statement_in claims.now) path.now else None) }
-{
-    if claims.routers.holds(at) {
-        claims.rank(net, path)
-    } else {
-        None
-    }
-}
 
 /// Adds where a router sends packets that holds a route of this path.
 fn push_sends(
@@ -46,7 +30,7 @@ fn push_sends(
         (text.new.items ≡ text.old.items ++ sends_text (net_in told.now) (statement_for told.now) (holds told.now.claims.routers at) (is_held told.now.sets.now at) (Some path.now)) }
 {
     let net = told.situation.net;
-    push_rank(text, claimed_rank(net, &told.claims, at, path))?;
+    push_rank(text, told.claims.rank_at(net, at, path))?;
     push_hops(text, path)?;
     push_set(text, net, told.sets, at)
 }

@@ -21,7 +21,7 @@ fn is_tie(imported: &Imported<'_>, at: Loc, held: &Route) -> bool
 
 /// Whether a neighbour is in the multipath set of a location: the location is a router and no origin, holds a route, and the neighbour gives it one
 /// that ties with it.
-fn is_member(situation: &Situation<'_>, at: Loc, next: Loc) -> bool
+pub fn is_member(situation: &Situation<'_>, at: Loc, next: Loc) -> bool
     requires { IsSituation situation.now }
     ensures { result ≡ member_in situation.now at next }
 {

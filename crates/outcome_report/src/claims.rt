@@ -1,8 +1,9 @@
 //! The sources that a policy claims for a prefix.
-ghost use Rattle.std.specs.Prelude.{◌≡◌, ◌≤◌, Bool, List as Seq, IfOk};
+ghost use Rattle.std.specs.Prelude.{◌≡◌, ◌≤◌, Bool, List as Seq, IfOk, None, if◌then◌else◌};
 ghost use Rattle.std.specs.List.{items_where_true};
 ghost use Rattle.std.specs.Option.{ForSome};
 ghost use Rattle.policy_base.specs.declared.limits.TheConstants.{ALTERNATIVES};
+ghost use Rattle.net_base.specs.Sets.{holds};
 ghost use Rattle.config_base.specs.Configs.{PlainConfig};
 ghost use Rattle.policy_base.specs.Meaning.{alternative_count};
 ghost use Rattle.policy_base.specs.Policies.{IsPolicyOf, policy_of};
@@ -36,6 +37,18 @@ impl Claims<'_> {
         match self.statement {
             None => None,
             Some(statement) => rank_of(&statement.ranked, path, net),
+        }
+    }
+
+    /// The rank of the path of a router's route, where the router is claimed.
+    pub fn rank_at(&self, net: &Net, at: Loc, path: &[Loc]) -> Option<u32>
+        requires { ForSome (statement_in self.now) (λ s. alternative_count s.ranked ≤ ALTERNATIVES) }
+        ensures { result ≡ (if holds self.now.routers at then rank_by net.now (statement_in self.now) path.now else None) }
+    {
+        if self.routers.holds(at) {
+            self.rank(net, path)
+        } else {
+            None
         }
     }
 }

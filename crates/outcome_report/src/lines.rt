@@ -84,18 +84,6 @@ fn push_ranked(text: &mut Vec<u8>, net: &Net, rank: u32, path: &[Loc]) -> Result
     push_path(text, net, path)
 }
 
-/// The rank of a router's path, where the router is claimed.
-fn claimed_rank(net: &Net, claims: &Claims<'_>, at: Loc, path: &[Loc]) -> Option<u32>
-    requires { ForSome (statement_in claims.now) (λ s. alternative_count s.ranked ≤ ALTERNATIVES) }
-    ensures { result ≡ (if holds claims.now.routers at then rank_by net.now (statement_in claims.now) path.now else None) }
-{
-    if claims.routers.holds(at) {
-        claims.rank(net, path)
-    } else {
-        None
-    }
-}
-
 /// Adds the path along which a router sends: with its rank where the router is claimed, and else as transit.
 pub fn push_held(
     text: &mut Vec<u8>,
@@ -107,7 +95,7 @@ pub fn push_held(
     requires { ForSome (statement_in claims.now) (λ s. alternative_count s.ranked ≤ ALTERNATIVES) }
     ensures { OnOk result (text.new.items ≡ text.old.items ++ used_text net.now (if holds claims.now.routers at then rank_by net.now (statement_in claims.now) path.now else None) path.now) }
 {
-    match claimed_rank(net, claims, at, path) {
+    match claims.rank_at(net, at, path) {
         Some(rank) => push_ranked(text, net, rank, path),
         None => {
             push_bytes(text, b" transit")?;

@@ -19,15 +19,24 @@ let picture = null, leaving = 0;
 
 // ---- arrows
 
-const arrow = (id, from, standing, kind) =>
-  ({ id, from, to: standing.path[1], kind, colour: kind === "old" ? "var(--faint)" : `var(--${formOf(standing)})` });
+const arrow = (id, from, standing, kind, to = standing.path[1]) =>
+  ({ id, from, to, kind, colour: kind === "old" ? "var(--faint)" : `var(--${formOf(standing)})` });
 const offerId = ({ peer, router }) => `${peer} at ${router}`;
 const leads = (standing) => standing?.path?.length > 1;
 
+const wayId = (from, to) => `${from} to ${to}`;
+
+/** Arrows to all next hops of routers that spread packets, and from peers that are offered a path. */
+const spreadArrows = ({ routers, sessions }) => [
+  ...[...routers].flatMap(([name, sends]) => sends.next.map((next) => arrow(wayId(name, next), name, sends, "", next))),
+  ...sessions.filter(({ hops }) => hops).map((each) => arrow(wayId(each.peer, each.router), each.peer, each, "offer", each.router)),
+];
+
 /** Arrows to next hops, those of the old report where they differ, and what peers are offered. */
-function arrowsOf({ old }) {
+function arrowsOf({ old, spread }) {
   const { report } = answers;
   if (!report || view().hasNoArrows) return [];
+  if (spread) return spreadArrows(spread);
   const isOther = ([name, standing]) => leads(standing) && !sameStanding(standing, report.routers.get(name));
   return [
     ...[...(old?.routers ?? [])].filter(isOther).map(([name, standing]) => arrow(`old ${name}`, name, standing, "old")),
@@ -36,10 +45,26 @@ function arrowsOf({ old }) {
   ];
 }
 
+/** The arrows along which packets of a router or a peer can go where routers spread them. */
+function waysOf(name, { routers, sessions }) {
+  const found = new Set(), seen = new Set([name]);
+  const begin = routers.get(name)?.next ?? sessions.filter((each) => each.peer === name && each.hops).map(({ router }) => router);
+  const wait = begin.map((next) => [name, next]);
+  while (wait.length) {
+    const [from, to] = wait.pop();
+    found.add(wayId(from, to));
+    if (!seen.has(to)) wait.push(...(routers.get(to)?.next ?? []).map((next) => [to, next]));
+    seen.add(to);
+  }
+  return [...found];
+}
+
 /** The arrows along which a router's packets go, or those of a peer to which routes are offered. */
 function pathOf(name) {
   const along = (path, first) => path.slice(0, -1).map((each, k) => (k ? each : first));
   if (!answers.report || view().hasNoArrows) return [];
+  const { spread } = view().paint();
+  if (spread) return waysOf(name, spread);
   const standing = answers.report.routers.get(name);
   if (standing) return along(standing.path, name);
   return answers.report.sessions.filter((each) => each.peer === name && leads(each)).flatMap((each) => along(each.path, offerId(each)));

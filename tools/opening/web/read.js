@@ -81,6 +81,26 @@ export function cutsOf(text) {
   return { cuts, last };
 }
 
+/** Where a router or a peer sends packets: how it stands, and for a router to which neighbours. */
+function sending(words) {
+  if (words.length === 1) return { state: words[0], rank: 0, hops: 0, next: [] };
+  const said = words.slice(words.indexOf("hops"));
+  return { state: words[0], rank: words[0] === "rank" ? Number(words[1]) : 0, hops: Number(said[1]), next: said.slice(3) };
+}
+
+/** What `multipath` says: where each router sends packets, what peers are offered, and the links over which none goes. */
+export function spreadOf(text) {
+  const spread = { routers: new Map(), sessions: [], idle: new Set(), last: "" };
+  for (const line of text.split("\n")) {
+    const words = line.split(" ");
+    if (words[0] === "router") spread.routers.set(words[1], sending(words.slice(2)));
+    else if (words[0] === "session") spread.sessions.push({ router: words[1], peer: words[2], ...sending(words.slice(3)) });
+    else if (words[0] === "idle" && words[1] === "link") spread.idle.add(linkKey(words[2], words[3]));
+    else if (words[0] === "idle") spread.last = line;
+  }
+  return spread;
+}
+
 /** What `drain` says: the links and routers that carry nothing. */
 export function freeOf(text) {
   const free = new Set();

@@ -4,7 +4,7 @@
 //   held            what it keeps
 //   forget()        drops that, where another prefix is chosen
 //   changes()       who stands otherwise, each with how it stood
-//   paint()         what the picture shows of it: heat, count, free, waiting, or the old report
+//   paint()         what the picture shows of it: heat, count, free, waiting, the old report, or where packets are spread
 //   hasNoArrows     whether routes aren't drawn
 //   list(changed)   what the list on the right shows
 //   told(id)        a sentence on a router or link, for the inspector
@@ -13,9 +13,10 @@
 import { compare } from "./compare.js";
 import { free } from "./free.js";
 import { routes } from "./routes.js";
+import { spread } from "./spread.js";
 import { chosen } from "./state.js";
 import { steps } from "./steps.js";
 import { whatif } from "./whatif.js";
 
-export const VIEWS = [routes, whatif, free, steps, compare];
+export const VIEWS = [routes, spread, whatif, free, steps, compare];
 export const view = () => VIEWS.find(({ name }) => name === chosen.view);

@@ -12,6 +12,7 @@ from serving import Served, example
 ABILENE = example("cookbook", "abilene.json"), example("cookbook", "exits.propane")
 TWO_EXITS = example("two-exits", "topology.json"), example("two-exits", "policy.propane")
 RING = example("waypoint-ring", "topology.json"), example("waypoint-ring", "policy.propane")
+CLOS = example("fabric", "topology.json"), example("fabric", "policy.propane")
 FABRIC = example("data-centre", "topology.json"), example("data-centre", "policy.propane")
 WAITS = "!!document.querySelector('.network.waits')"
 READY = f"!!globalThis.propane&&(!!propane.answers.report||!!propane.answers.fault)&&!{WAITS}"

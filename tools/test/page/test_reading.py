@@ -8,7 +8,8 @@ from paging import TWO_EXITS, Paged
 
 # What a reader has found, as the table says it: the names that it fills, and nothing for those that stay empty.
 FOUND = """import('./read.js').then(m => %s.map(([reader, text]) => {
-  const r = m[{ report: 'reportOf', promises: 'promisesOf', cuts: 'cutsOf', free: 'freeOf' }[reader]](text), stands = (s) => [s.state, s.rank, s.path];
+  const r = m[{ report: 'reportOf', promises: 'promisesOf', cuts: 'cutsOf', free: 'freeOf', spread: 'spreadOf' }[reader]](text), stands = (s) => [s.state, s.rank, s.path],
+    sends = (s) => [s.state, s.rank, s.hops, s.next];
   const now = r.cases?.at(-1), cut = r.cuts?.at(-1);
   const said = {
     report: () => ({ prefix: r.prefix, class: r.class, quiet: r.quiet, rounds: r.rounds, deliveries: r.deliveries, events: [...r.events],
@@ -18,6 +19,8 @@ FOUND = """import('./read.js').then(m => %s.map(([reader, text]) => {
       transit: now.transit, uncarried: r.uncarried, last: r.last }),
     cuts: () => ({ cut: cut && [cut.kind, cut.id, cut.moves], lost: cut?.lost, worse: cut?.worse.map(({ who, rank }) => [who, rank]), last: r.last }),
     free: () => ({ free: [...r.free], last: r.last }),
+    spread: () => ({ routers: [...r.routers].map(([name, s]) => [name, ...sends(s)]), sessions: r.sessions.map((s) => [s.router, s.peer, ...sends(s)]),
+      idle: [...r.idle], last: r.last }),
   }[reader]();
   return Object.fromEntries(Object.entries(said).filter(([, each]) => each !== null && each !== undefined && each !== '' && each.length !== 0));
 }))"""

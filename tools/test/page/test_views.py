@@ -4,7 +4,7 @@ from __future__ import annotations
 import json
 import re
 
-from paging import ABILENE, FABRIC, TWO_EXITS, WAYS, Paged, shown
+from paging import ABILENE, CLOS, FABRIC, TWO_EXITS, WAYS, Paged, shown
 from serving import text_of
 
 
@@ -71,6 +71,18 @@ class OtherViews(Paged):
         told = self.program(served, "drain", policy, "203.0.113.0/24")
         free = {"~".join(sorted(line.split()[2:])) for line in told.splitlines() if re.match("free (link|router) ", line)}
         self.assertEqual(set(self.browser.eval("[...propane.view().held.free.free]")), free)
+
+    def test_spread_is_the_programs(self) -> None:
+        served, policy = self.open(*CLOS), text_of(CLOS[1])
+        self.click("[data-mode=spread]")
+        told = self.program(served, "multipath", policy, self.chosen("prefix"))
+        wanted = {(words[1], name) for words in map(str.split, told.splitlines()) if "next" in words for name in words[words.index("next") + 1:]}
+        arrows = self.browser.eval(WAYS)
+        self.assertEqual(sorted(arrows), sorted(f"{name}>{after}" for name, after in wanted))
+        self.assertEqual(len([way for way in arrows if way.startswith("L2>")]), 2)
+        self.browser.hover("[data-node=L2]")
+        self.assertEqual(self.browser.eval("document.querySelectorAll('.n-arrow.on').length"), 4)
+        self.assertIn("Its packets go to S1, S2, and have 2 hops in all.", self.said("#inspector"))
 
     def test_steps_lead_to_rest(self) -> None:
         served, policy = self.open(*TWO_EXITS), text_of(TWO_EXITS[1])
