@@ -11,7 +11,7 @@ module _ {R : Type 0} (net : Speakers R) where
   abbrev pub AreDown : (ℕ → Bool) → Type 0
   AreDown down = (r : ℕ) → down r ≡ true → net.is_router r ≡ true
 
-  choose_again-down : (r : ℕ) (w : World R) → (choose_again net r w).down ≡ w.down
+  pub choose_again-down : (r : ℕ) (w : World R) → (choose_again net r w).down ≡ w.down
   choose_again-down r w = elim (cases_Bool (running net w r)) [
     | inl t ↦ ap (λ (v : World R). v.down) (cond-true (running net w r) (tell net (λ a b. at r a) (with_choice net r w)) w t)
     | inr f ↦ ap (λ (v : World R). v.down) (cond-false (running net w r) (tell net (λ a b. at r a) (with_choice net r w)) w f)
@@ -47,7 +47,7 @@ module _ {R : Type 0} (net : Speakers R) where
   step-down (PeerSpeak r p) w d h = d
   step-down (PeerSilent r p) w d h = d
 
-  happens-down : (e : Event) (w : World R) → AreDown w.down → AreDown (happens net e w).down
+  pub happens-down : (e : Event) (w : World R) → AreDown w.down → AreDown (happens net e w).down
   happens-down e w d = by (fault_of net e w) refl
     where
       by : (o : Option EventFault) → fault_of net e w ≡ o → AreDown (or_as_before o (step net e w) w).down

@@ -82,7 +82,7 @@ module _ (net : PlainNet) (policy : PlainPolicy) (config : PlainConfig) (p : Pla
       )
 
 -- each world has an order
-has_order : (net : PlainNet) (policy : PlainPolicy) (config : PlainConfig) (cs : List PlainCaseEvidence) → IsNet net → IsPolicyOf net policy
+pub has_order : (net : PlainNet) (policy : PlainPolicy) (config : PlainConfig) (cs : List PlainCaseEvidence) → IsNet net → IsPolicyOf net policy
     → Passes net policy config cs → (p : PlainPrefix) → IsPrefix p → (w : World Route) (f : Failures) → IsScenarioOf net w f
     → (outcome : ℕ → Option Route) × HasOrder net policy config p w outcome
 has_order net policy config cs rules kept passes p prefix w f scenario = elim (case_or_bare net policy config cs rules kept passes f p prefix) [
@@ -95,7 +95,7 @@ has_order net policy config cs rules kept passes p prefix w f scenario = elim (c
       over_graph net policy config p rules w f scenario (suc c.k) c.of_class g (pairs_of c.d) written known meets)
 ]
 
-same_scenario : (net : PlainNet) (w v : World Route) (f : Failures) → SameFailures w v → IsScenarioOf net w f → IsScenarioOf net v f
+pub same_scenario : (net : PlainNet) (w v : World Route) (f : Failures) → SameFailures w v → IsScenarioOf net w f → IsScenarioOf net v f
 same_scenario net w v f same scenario = record {
   dead = λ l. scenario.dead l ∙ ap (λ (d : ℕ → Bool). d l) (sym same.down);
   links = λ a b t. scenario.links a b t ∙ ap (λ (d : ℕ → ℕ → Bool). d a b) (sym same.cut);

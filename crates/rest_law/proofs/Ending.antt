@@ -1,5 +1,5 @@
 -- Messages on a configured network come to an end.
-use Rattle.std.proofs.Common.{◌≡◌, ℕ, ◌≤◌, ◌+◌, ◌*◌, zero, suc, true, List, [], ◌∷◌, ◌++◌, length, Option, Some, refl, sym, subst, arith}
+use Rattle.std.proofs.Common.{◌≡◌, ℕ, ◌<◌, ◌≤◌, ◌+◌, ◌*◌, zero, suc, true, List, [], ◌∷◌, ◌++◌, length, Option, Some, refl, sym, subst, arith}
 use Rattle.std.proofs.lemmas.Bool.{ltb-true}
 use Rattle.net_base.specs.Network.{PlainNet, IsNet}
 use Rattle.net_base.specs.Prefixes.{PlainPrefix}
@@ -10,10 +10,11 @@ use Rattle.event_base.specs.declared.event.Event.{Event}
 use Rattle.event_base.specs.Speaking.{speakers_of, taken_by}
 use Rattle.event_base.specs.Steps.{IsQuiet, happens, opening, run}
 use Rattle.event_base.specs.World.{Speakers, World}
-use Rattle.event_law.specs.Kinds.{AreKinds}
+use Rattle.event_law.specs.Kept.{AreSpeakers, IsKept}
+use Rattle.event_law.specs.Kinds.{AreKinds, IsKind}
 use Rattle.event_law.proofs.Keeping.{opening-keeps, run-keeps}
 use Rattle.event_law.proofs.KindsKept.{opening-kinds, run-kinds}
-use Rattle.rest_law.specs.Orders.{IsOrder, at_rest, rests}
+use Rattle.rest_law.specs.Orders.{AreChoosers, IsOrder, Takes, at_rest, rests}
 use Rattle.rest_law.specs.Rounds.{AreRounds, deliveries}
 use Rattle.rest_law.specs.Rest.{rounds_enough}
 use Rattle.rest_law.proofs.Present.{fewer_rounds}
@@ -43,7 +44,21 @@ pub record HasOrder (net : PlainNet) (policy : PlainPolicy) (config : PlainConfi
   pub routers : List ℕ
   pub order : IsOrder (speakers_of net policy config p) w (taken_by net config p) (NoLater net) outcome (rests (speakers_of net policy config p) w) routers
 
--- Whatever the configuration is, where the routers have an order no message waits after so many rounds, and each holds what the outcome has.
+-- Where any speakers hold trails and have an order, no message waits after so many rounds, and each holds what the outcome has.
+pub trails_end : (net : PlainNet) (S : Speakers Route) (takes : Takes Route) (w : World Route) (outcome : ℕ → Option Route) (vs : List ℕ) (ds : List (ℕ × ℕ))
+    → AreSpeakers S → AreChoosers S takes (NoLater net) (λ (h : Route). length h.path) → IsKind S (IsHolding net) (IsSaying net)
+    → ((r : ℕ) → S.is_router r ≡ true → r < length net.routers) → IsKept S w → AreKinds (IsHolding net) (IsSaying net) w
+    → ((r : ℕ) → rests S w r ≡ true → outcome r ≡ at_rest S w r) → IsOrder S w takes (NoLater net) outcome (rests S w) vs → AreRounds S (rounds_enough net) w ds
+    → IsQuiet (run S (deliveries ds) w) × ((r : ℕ) → (run S (deliveries ds) w).route r ≡ outcome r)
+trails_end net S takes w outcome vs ds speak choosers kind below kept kinds rested order rounds =
+    let short : (ds : List (ℕ × ℕ)) (r : ℕ) (h : Route) → (run S (deliveries ds) w).route r ≡ Some h → length h.path ≤ suc (length net.routers) = λ ds r h e.
+    (let k = (run-kinds S (IsHolding net) (IsSaying net) kind (deliveries ds) w kinds).route r h e in
+    subst (λ (z : List ℕ). length z ≤ suc (length net.routers)) (sym k.1) (trail_short net (r ∷ k.0) k.2)) in
+    let few = order_short S w takes (NoLater net) outcome (length net.routers) below vs order in
+    comes_to_rest S w takes (NoLater net) (λ (h : Route). length h.path) choosers outcome rested (suc (length net.routers)) speak vs ds kept short order
+    (fewer_rounds S _ _ w ds (enough (length vs) (length net.routers) few) rounds)
+
+-- So it is on a configured network, whatever the configuration is.
 pub messages_end_on_networks : (net : PlainNet) (policy : PlainPolicy) (config : PlainConfig) (p : PlainPrefix) (es : List Event) (outcome : ℕ → Option Route) (ds : List (ℕ × ℕ)) → IsNet net
     → HasOrder net policy config p (world_after net policy config p es) outcome → AreRounds (speakers_of net policy config p) (rounds_enough net) (world_after net policy config p es) ds
     → IsQuiet (world_after net policy config p (es ++ deliveries ds)) × ((r : ℕ) → (world_after net policy config p (es ++ deliveries ds)).route r ≡ outcome r)
@@ -51,15 +66,9 @@ messages_end_on_networks net policy config p es outcome ds rules has rounds =
     let S = speakers_of net policy config p in
     let w : World Route = run S es (opening S) in
     let speak = are_speakers net policy config p rules in
-    let kept = run-keeps S speak es (opening S) (opening-keeps S speak) in
-    let kinds : (ds : List (ℕ × ℕ)) → AreKinds (IsHolding net) (IsSaying net) (run S (deliveries ds) w) = λ ds.
-    run-kinds S (IsHolding net) (IsSaying net) (trails net policy config p) (deliveries ds) w
-    (run-kinds S (IsHolding net) (IsSaying net) (trails net policy config p) es (opening S) (opening-kinds S (IsHolding net) (IsSaying net) (trails net policy config p))) in
-    let short : (ds : List (ℕ × ℕ)) (r : ℕ) (h : Route) → (run S (deliveries ds) w).route r ≡ Some h → length h.path ≤ suc (length net.routers) = λ ds r h e.
-    (let k = (kinds ds).route r h e in subst (λ (z : List ℕ). length z ≤ suc (length net.routers)) (sym k.1) (trail_short net (r ∷ k.0) k.2)) in
-    let few = order_short S w (taken_by net config p) (NoLater net) outcome (length net.routers) (λ r t. ltb-true r (length net.routers) t) has.routers has.order in
+    let kind = trails net policy config p in
     let end =
-    comes_to_rest S w (taken_by net config p) (NoLater net) (λ (h : Route). length h.path)
-    (are_choosers net policy config p rules) outcome has.rested (suc (length net.routers)) speak has.routers ds kept short has.order
-    (fewer_rounds S _ _ w ds (enough (length has.routers) (length net.routers) few) rounds) in
+    trails_end net S (taken_by net config p) w outcome has.routers ds speak (are_choosers net policy config p rules) kind (λ r t. ltb-true r (length net.routers) t)
+    (run-keeps S speak es (opening S) (opening-keeps S speak))
+    (run-kinds S (IsHolding net) (IsSaying net) kind es (opening S) (opening-kinds S (IsHolding net) (IsSaying net) kind)) has.rested has.order rounds in
     subst (λ (u : World Route). IsQuiet u × ((r : ℕ) → u.route r ≡ outcome r)) (run_on S es (deliveries ds) (opening S)) end

@@ -6,7 +6,7 @@ use Rattle.net_base.specs.Network.{PlainNet, is_router}
 use Rattle.net_base.specs.Prefixes.{PlainPrefix}
 use Rattle.config_base.specs.Configs.{PlainConfig}
 use Rattle.config_base.specs.Lines.{own_tag}
-use Rattle.rollout_base.specs.Lines.{AreApart, sends, takes}
+use Rattle.rollout_base.specs.Lines.{AreApart, ReadsAs, SaysNoMore, sends, takes}
 use Rattle.rollout_base.specs.Mixtures.{Part}
 
 -- Of a prefix a stage has the lines of two configurations, and the starts of the first of them:
@@ -47,3 +47,14 @@ pub record IsRollout (net : PlainNet) (p : PlainPrefix) (old new : Part) (one tw
 -- one of the four
 abbrev pub IsOfRollout : Part → Part → PlainConfig → PlainConfig → Part → Type 0
 IsOfRollout old new one two part = HasStartsOf old one part ⊎ HasStartsOf new two part
+
+-- Two stages between an old and a new part, for one prefix, by what they say alone, however they were made:
+pub record AreStages (net : PlainNet) (p : PlainPrefix) (old new : Part) (one two : PlainConfig) : Type 0 where
+  -- routers may have the lines of both,
+  pub mix : MayMix net p old new
+  -- stage 1, with the old starts, says nothing that neither of the two says, and reads the old routes as the old part does,
+  pub first_says : (r : ℕ) → SaysNoMore net p old new r (staged old one)
+  pub first_reads : (r : ℕ) → ReadsAs net p old r (staged old one)
+  -- and stage 2, with the new starts, says nothing else either, and reads the new routes as the new part does.
+  pub second_says : (r : ℕ) → SaysNoMore net p old new r (staged new two)
+  pub second_reads : (r : ℕ) → ReadsAs net p new r (staged new two)

@@ -1,6 +1,6 @@
 -- Two layers of routes whose tags are apart stay two layers, whatever mixture of their lines routers run.
 use Rattle.std.proofs.Common.{◌≡◌, ℕ, Bool, true, false, ◌⊎◌, List, [], ◌∷◌, Option, Some, sym, ap, ◌∙◌, subst, inl, inr}
-use Rattle.std.proofs.lemmas.Bool.{cases_Bool, cond-true, cond-false, eqb-true, true≢false}
+use Rattle.std.proofs.lemmas.Bool.{cases_Bool, true≢false}
 use Rattle.list_law.proofs.Options.{when_parts}
 use Rattle.net_base.specs.declared.numbers.Tag.{Tag}
 use Rattle.net_base.specs.Network.{PlainNet, is_peer, is_router}
@@ -10,11 +10,11 @@ use Rattle.policy_base.specs.Governing.{is_origin}
 use Rattle.config_base.specs.declared.route.Route.{Route}
 use Rattle.config_base.specs.Lines.{own_route, own_tag}
 use Rattle.event_base.specs.Speaking.{chosen_by, exported_by, message}
-use Rattle.event_base.specs.World.{at}
 use Rattle.event_law.specs.Kinds.{AreKinds, Held, IsKind}
 use Rattle.rollout_base.specs.Lines.{AreApart, GivesTag, ReadsTag, SaysNoMore, sends, takes}
-use Rattle.rollout_base.specs.Mixtures.{Change, Change as change, Load, Loaded, Mixture, Part, Running, after, announced_if, begins, mixed, with_part}
-use Rattle.event_law.proofs.KindsKept.{choose_again-kinds, happens-kinds, opening-kinds}
+use Rattle.rollout_base.specs.Mixtures.{Change, Loaded, Mixture, Part, Running, after, announced_if, begins, mixed}
+use Rattle.event_law.proofs.KindsKept.{opening-kinds}
+use Rattle.rollout_law.proofs.Loads.{kinds_after}
 use Rattle.rollout_law.proofs.Speaking.{chosen_own, chosen_parts, sent_parts}
 
 -- a route with this path and tag
@@ -122,21 +122,9 @@ module _ (net : PlainNet) (says : ℕ → Bool) (p : PlainPrefix) (x y : Part) (
 
   -- ---- events and loads
 
-  says_on : (l : Load) (m : Mixture) → ((r : ℕ) → SaysNoMore net p x y r (m r)) → SaysNoMore net p x y l.router l.part → (r : ℕ) → SaysNoMore net p x y r (with_part l.router l.part m r)
-  says_on l m before new r = elim (cases_Bool (at l.router r)) [
-    | inl here ↦ subst (SaysNoMore net p x y r) (sym (cond-true (at l.router r) l.part (m r) here)) (subst (λ (z : ℕ). SaysNoMore net p x y z l.part) (sym (eqb-true r l.router here)) new)
-    | inr other ↦ subst (SaysNoMore net p x y r) (sym (cond-false (at l.router r) l.part (m r) other)) (before r)
-  ]
-
   pub after-kinds : (es : List Change) (s : Running) → ((r : ℕ) → SaysNoMore net p x y r (s.runs r)) → Loaded (SaysNoMore net p x y) es
       → AreKinds Held_at OnTheWay s.world → AreKinds Held_at OnTheWay (after net says p es s).world
-  after-kinds [] s no_more loaded k = k
-  after-kinds (change.event e ∷ es) s no_more loaded k =
-      after-kinds es (record { runs = s.runs; world = _ }) no_more loaded (happens-kinds (mixed net says p s.runs) Held_at OnTheWay (kinds s.runs no_more) e s.world k)
-  after-kinds (change.load l ∷ es) s no_more loaded k =
-      let runs = with_part l.router l.part s.runs in
-      let no_more' = says_on l s.runs no_more loaded.0 in
-      after-kinds es (record { runs = runs; world = _ }) no_more' loaded.1 (choose_again-kinds (mixed net says p runs) Held_at OnTheWay (kinds runs no_more') l.router s.world k)
+  after-kinds es s no_more loaded k = kinds_after net says p (SaysNoMore net p x y) Held_at OnTheWay kinds es s no_more loaded k
 
   pub begins-kinds : (m : Mixture) → ((r : ℕ) → SaysNoMore net p x y r (m r)) → AreKinds Held_at OnTheWay (begins net says p m).world
   begins-kinds m no_more = opening-kinds (mixed net says p m) Held_at OnTheWay (kinds m no_more)

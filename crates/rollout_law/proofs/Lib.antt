@@ -4,4 +4,5 @@ pub mod Loads
 pub mod Reading
 pub mod Same
 pub mod Speaking
+pub mod Standing
 pub mod Tags

@@ -57,7 +57,7 @@ module _ (net : PlainNet) (says : ℕ → Bool) (p : PlainPrefix) (x : Part) whe
     sends_alike a b (Some h) held =
         exported_some net (m a).config p a b h ∙ ap (option_map (message h)) ((reads a).sent b h.tag (held h refl)) ∙ sym (exported_some net x.config p a b h)
 
-    takes_alike : (r u : ℕ) (o : Option Route) → is_router net r ≡ true → Held (Sent u r) o → taken_by net (m r).config p r u o ≡ taken_by net x.config p r u o
+    pub takes_alike : (r u : ℕ) (o : Option Route) → is_router net r ≡ true → Held (Sent u r) o → taken_by net (m r).config p r u o ≡ taken_by net x.config p r u o
     takes_alike r u None router held = taken_none net (m r).config p r u ∙ sym (taken_none net x.config p r u)
     takes_alike r u (Some g) router held =
         let same : takes net (m r).config p r u g.path g.tag ≡ takes net x.config p r u g.path g.tag = elim (cases_Bool (is_router net u)) [

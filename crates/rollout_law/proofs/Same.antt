@@ -1,7 +1,7 @@
 -- Worlds go on alike where all routes have tags of one part and all parts read them as it does.
 use Rattle.std.proofs.Common.{◌≡◌, ℕ, Bool, true, false, cond, not, ◌&&◌, List, [], ◌∷◌, ◌++◌, Option, None, refl, sym, ap, ◌∙◌, subst, inl, inr}
 use Rattle.std.specs.Prelude.{if◌then◌else◌}
-use Rattle.std.proofs.lemmas.Bool.{cases_Bool, cond-true, cond-false, eqb-true}
+use Rattle.std.proofs.lemmas.Bool.{cases_Bool, cond-false}
 use Rattle.net_base.specs.Network.{PlainNet, IsNet, is_router}
 use Rattle.net_base.specs.Prefixes.{PlainPrefix}
 use Rattle.config_base.specs.declared.route.Route.{Route}
@@ -21,6 +21,7 @@ use Rattle.rollout_base.specs.Lines.{ReadsAs}
 use Rattle.rollout_base.specs.Mixtures.{Change, Change as change, Load, Loaded, Mixture, Part, Running, after, all_run, announced_if, mixed, with_part, without_loads}
 use Rattle.rollout_law.specs.Laws.{HasTagsOf, LoadsChangeNothing, OnePartIsPlain, RolloutsBeginAlike}
 use Rattle.event_law.proofs.KindsKept.{choose_again-kinds, down-kinds, emptied-kinds, happens-kinds, held-cond, held-none, marked-kinds, opening-kinds, received-kinds, with_choice-kinds}
+use Rattle.rollout_law.proofs.Loads.{loaded_on}
 use Rattle.rollout_law.proofs.Reading.{Sent, Tagged, chooses_alike, sends_alike, tagged}
 use Rattle.rollout_law.proofs.Speaking.{are_speakers}
 
@@ -168,12 +169,6 @@ module _ (net : PlainNet) (says : ℕ → Bool) (p : PlainPrefix) (x : Part) whe
         choose_again_same (with_part l.router l.part m) reads l.router w k
         ∙ still B same_as_itself w l.router (record { chosen = λ on. kept.chosen l.router refl; told = λ b on. kept.told l.router b on refl })
 
-    reads_on : (l : Load) (m : Mixture) → ((r : ℕ) → ReadsAs net p x r (m r)) → ReadsAs net p x l.router l.part → (r : ℕ) → ReadsAs net p x r (with_part l.router l.part m r)
-    reads_on l m reads new r = elim (cases_Bool (at l.router r)) [
-      | inl here ↦ subst (ReadsAs net p x r) (sym (cond-true (at l.router r) l.part (m r) here)) (subst (λ (y : ℕ). ReadsAs net p x y l.part) (sym (eqb-true r l.router here)) new)
-      | inr other ↦ subst (ReadsAs net p x r) (sym (cond-false (at l.router r) l.part (m r) other)) (reads r)
-    ]
-
     abbrev Alike : List Change → Running → Type 0
     Alike cs s =
         ((after net says p cs s).world ≡ run B (without_loads cs) s.world) × Kinds (after net says p cs s).world × ((r : ℕ) → ReadsAs net p x r ((after net says p cs s).runs r))
@@ -192,7 +187,7 @@ module _ (net : PlainNet) (says : ℕ → Bool) (p : PlainPrefix) (x : Part) whe
         (alike cs (record { runs = s.runs; world = next }) kept' k' reads loaded)
     alike (change.load l ∷ cs) s kept k reads loaded =
         let runs = with_part l.router l.part s.runs in
-        let reads' = reads_on l s.runs reads loaded.0 in
+        let reads' = loaded_on (ReadsAs net p x) l s.runs reads loaded.0 in
         let stays : choose_again (mixed net says p runs) l.router s.world ≡ s.world = load_same l s.runs s.world reads' k kept in
         subst (λ (v : World Route).
         ((after net says p cs (record { runs = runs; world = v })).world ≡ run B (without_loads cs) s.world)

@@ -1,52 +1,28 @@
 -- The speakers of a mixture are speakers. What one of them chooses somebody gave; what it sends and takes follows from its lines.
-use Rattle.std.proofs.Common.{◌≡◌, ℕ, zero, suc, Bool, true, false, List, [], ◌∷◌, Option, Some, None, refl, sym, ap, ◌∙◌, subst, inl, inr}
-use Rattle.std.specs.Prelude.{◌&&◌, ◌==◌, fold, option_map, slice_get, if◌then◌else◌}
+use Rattle.std.proofs.Common.{◌≡◌, ℕ, Bool, true, false, Option, Some, None, refl, sym, ap, ◌∙◌}
+use Rattle.std.specs.Prelude.{option_map, if◌then◌else◌}
 use Rattle.std.specs.Option.{option_and_then}
-use Rattle.std.specs.Str.{bytes_eq}
-use Rattle.std.proofs.lemmas.Bool.{and_parts, cases_Bool, cond-true, cond-false, eq-eqb, eqb-true, or_left, or_right, true≢false}
-use Rattle.std.proofs.lemmas.Slice.Eq.{bytes_eq-Decides}
+use Rattle.std.proofs.lemmas.Bool.{cond-true, cond-false, true≢false}
 use Rattle.list_law.proofs.Options.{option_map_parts}
 use Rattle.net_base.specs.declared.numbers.Tag.{Tag}
 use Rattle.net_base.specs.Network.{PlainNet, IsNet, is_peer}
 use Rattle.net_base.specs.Numbers.{no_tag}
 use Rattle.net_base.specs.Prefixes.{PlainPrefix}
 use Rattle.net_base.specs.Locations.{neighbours}
-use Rattle.net_base.proofs.Neighbours.{linked_neighbour}
 use Rattle.policy_base.specs.Policies.{PlainPolicy}
 use Rattle.policy_base.specs.Governing.{is_origin}
 use Rattle.config_base.specs.declared.route.Route.{Route}
 use Rattle.config_base.specs.Configs.{PlainConfig}
-use Rattle.config_base.specs.Lines.{block_at, class_of, export_of, import_of, own_route, same_tag}
-use Rattle.config_base.proofs.SameTags.{same_tag-is}
-use Rattle.event_base.specs.Speaking.{chosen_by, exported_by, extended, first_of, is_before, message, picked, same_message, taken_by, with_gift}
-use Rattle.event_law.specs.Kept.{AreSpeakers, among}
+use Rattle.config_base.specs.Lines.{block_at, class_of, export_of, import_of, own_route}
+use Rattle.event_base.specs.Speaking.{chosen_by, exported_by, extended, first_of, message, taken_by}
+use Rattle.event_law.specs.Kept.{AreSpeakers}
+use Rattle.event_law.proofs.Quiet as quiet_law
+use Rattle.event_law.proofs.Running.{first_is_given}
 use Rattle.rollout_base.specs.Lines.{sends, takes}
 use Rattle.rollout_base.specs.Mixtures.{Mixture, mixed}
 
--- ---- speakers
-
-among_at : (us : List ℕ) (i u : ℕ) → slice_get us i ≡ Some u → among us u ≡ true
-among_at [] i u h = absurd (cc)
-among_at (v ∷ us) zero u h = or_left (u == v) (among us u) (eq-eqb u v (let same : v ≡ u = cc in sym same))
-among_at (v ∷ us) (suc i) u h = or_right (u == v) (among us u) (among_at us i u h)
-
-one_message : (a b : Option Route) → same_message a b ≡ true → a ≡ b
-one_message None None h = refl
-one_message None (Some h') h = absurd (cc)
-one_message (Some g) None h = absurd (cc)
-one_message (Some g) (Some k) h =
-    let first = and_parts (bytes_eq g.path k.path) (same_tag g.tag k.tag && g.pref == k.pref) h in
-    let last = and_parts (same_tag g.tag k.tag) (g.pref == k.pref) first.1 in
-    let path : g.path ≡ k.path = (bytes_eq-Decides g.path k.path).0 first.0 in
-    let tag = same_tag-is g.tag k.tag last.0 in
-    let pref = eqb-true g.pref k.pref last.1 in
-    λ i. Some (record { path = path i; tag = tag i; pref = pref i })
-
 pub are_speakers : (net : PlainNet) (says : ℕ → Bool) (p : PlainPrefix) (m : Mixture) → IsNet net → AreSpeakers (mixed net says p m)
-are_speakers net says p m rules = record {
-  near = λ r u h. (let at = linked_neighbour net r u rules h in among_at (neighbours net r) at.0 u at.1);
-  apart = one_message;
-}
+are_speakers net says p m rules = (let each = quiet_law.are_speakers net (m 0).policy (m 0).config p rules in record { near = each.near; apart = each.apart })
 
 -- ---- what is sent and taken, by the lines
 
@@ -112,27 +88,6 @@ sent_to_router net config p a b tag t off h =
     (λ class e. kept_through _ (λ k. k ≡ tag) (block_at net config a b) t (λ block f. sent_tag _ (is_peer net b) tag t off f) e) h
 
 -- ---- what is chosen was given
-
-fold_holds : {A B : Type 0} (P : B → Type 0) (f : B → A → B) (b : B) (xs : List A) → P b → ((b : B) (x : A) → P b → P (f b x)) → P (fold f b xs)
-fold_holds P f b [] start more = start
-fold_holds P f b (x ∷ xs) start more = fold_holds P f (f b x) xs (more b x start) more
-
-abbrev pub IsGiven : (ℕ → Option Route) → Option (ℕ × Route) → Type 0
-IsGiven gives o = (x : ℕ × Route) → o ≡ Some x → gives x.0 ≡ Some x.1
-
-picked-given : (net : PlainNet) (gives : ℕ → Option Route) (best : Option (ℕ × Route)) (u : ℕ) (o : Option Route) → gives u ≡ o → IsGiven gives best → IsGiven gives (picked net best u o)
-picked-given net gives best u None e before = before
-picked-given net gives None u (Some g) e before = λ x h. (let same : (u, g) ≡ x = cc in subst (λ (y : ℕ × Route). gives y.0 ≡ Some y.1) same e)
-picked-given net gives (Some y) u (Some g) e before = λ x h. elim (cases_Bool (is_before net (u, g) y)) [
-  | inl t ↦ (
-      let is : Some (u, g) ≡ Some x = sym (cond-true (is_before net (u, g) y) (Some (u, g)) (Some y) t) ∙ h in
-      let same : (u, g) ≡ x = cc in
-      subst (λ (y : ℕ × Route). gives y.0 ≡ Some y.1) same e)
-  | inr f ↦ before x (sym (cond-false (is_before net (u, g) y) (Some (u, g)) (Some y) f) ∙ h)
-]
-
-pub first_is_given : (net : PlainNet) (gives : ℕ → Option Route) (us : List ℕ) → IsGiven gives (first_of net gives us)
-first_is_given net gives us = fold_holds (IsGiven gives) (with_gift net gives) None us (λ x e. absurd (cc)) (λ best u before. picked-given net gives best u (gives u) refl before)
 
 -- a router that is an origin chooses its own route
 pub chosen_own : (net : PlainNet) (policy : PlainPolicy) (config : PlainConfig) (p : PlainPrefix) (r : ℕ) (offer : ℕ → Option Route) → is_origin net policy p r ≡ true

@@ -1,13 +1,12 @@
 -- Tags alone make a layer.
-use Rattle.std.proofs.Common.{◌≡◌, ℕ, true, ◌&&◌, ◌⊎◌, List, [], ◌∷◌, Option, refl, sym, subst, inl, inr}
+use Rattle.std.proofs.Common.{◌≡◌, ℕ, true, ◌&&◌, ◌⊎◌, [], ◌∷◌, refl, sym, subst, inl, inr}
 use Rattle.std.proofs.lemmas.Bool.{and_parts}
 use Rattle.net_base.specs.Network.{PlainNet, is_router}
 use Rattle.net_base.specs.Numbers.{no_tag}
 use Rattle.net_base.specs.Prefixes.{PlainPrefix}
 use Rattle.net_base.proofs.RoutersAndPeers.{router_no_peer}
 use Rattle.config_base.specs.declared.route.Route.{Route}
-use Rattle.event_base.specs.World.{World}
-use Rattle.event_law.specs.Kinds.{AreKinds, Each}
+use Rattle.event_law.proofs.Waiting.{said}
 use Rattle.rollout_base.specs.Lines.{GivesTag}
 use Rattle.rollout_base.specs.Mixtures.{Part, after, begins}
 use Rattle.rollout_law.specs.Laws.{TagsAreOfEither}
@@ -31,28 +30,16 @@ module _ (net : PlainNet) (p : PlainPrefix) (x : Part) where
     sent_tag = λ a b m on to. on to;
   }
 
-module _ {R : Type 0} (at : ℕ → R → Type 0) (on on' : ℕ → ℕ → R → Type 0) (g : (a b : ℕ) (m : R) → on a b m → on' a b m) where
-  each_said : (a b : ℕ) (ms : List (Option R)) → Each (on a b) ms → Each (on' a b) ms
-  each_said a b [] e = tt
-  each_said a b (m ∷ ms) e = (λ y h. g a b y (e.0 y h), each_said a b ms e.1)
-
-  said : (w : World R) → AreKinds at on w → AreKinds at on' w
-  said w k = record {
-    queue = λ a b. each_said a b (w.queue a b) (k.queue a b);
-    heard = λ a b y h. g a b y (k.heard a b y h);
-    queued = λ a b y h. g a b y (k.queued a b y h);
-    route = k.route;
-  }
-
 pub tags_are_of_either : TagsAreOfEither
 tags_are_of_either net says p x y cs m apart peers no_more loaded =
     let one = tag_layer net p x in
     let two = tag_layer net p y in
     let w = (after net says p cs (begins net says p m)).world in
     let On : ℕ → ℕ → Route → Type 0 = OnTheWay net says p x y apart peers (Gives net p x) (Gives net p y) (Sends net p x) (Sends net p y) one two in
-    said (Held_at net says p x y apart peers (Gives net p x) (Gives net p y) (Sends net p x) (Sends net p y) one two) On
+    let At : ℕ → Route → Type 0 = Held_at net says p x y apart peers (Gives net p x) (Gives net p y) (Sends net p x) (Sends net p y) one two in
+    said At At On
     (λ a b g. (is_router net a && is_router net b) ≡ true → GivesTag net p x a g.tag ⊎ GivesTag net p y a g.tag)
-    (λ a b g on who. (let at = and_parts (is_router net a) (is_router net b) who in given a b g at.1 (on.router at.0))) w
+    (λ r h at. at) (λ a b g on who. (let at = and_parts (is_router net a) (is_router net b) who in given a b g at.1 (on.router at.0))) w
     (after-kinds net says p x y apart peers (Gives net p x) (Gives net p y) (Sends net p x) (Sends net p y) one two cs (begins net says p m) no_more loaded
     (begins-kinds net says p x y apart peers (Gives net p x) (Gives net p y) (Sends net p x) (Sends net p y) one two m no_more))
   where

@@ -1,5 +1,6 @@
-pub mod Resting
+pub mod Alike
+pub mod Moments
+pub mod OfCase
 pub mod Safe
 pub mod Saying
-pub mod Settled
 pub mod Still

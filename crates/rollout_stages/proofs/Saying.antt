@@ -1,10 +1,9 @@
 -- What a stage says.
-use Rattle.std.proofs.Common.{◌≡◌, ℕ, Bool, true, false, ◌⊎◌, List, Option, Some, None, refl, sym, ap, ◌∙◌, subst, inl, inr}
-use Rattle.std.specs.Prelude.{IsTrue}
+use Rattle.std.proofs.Common.{◌≡◌, ℕ, true, ◌⊎◌, List, Option, Some, None, refl, sym, ◌∙◌, subst, inl, inr}
 use Rattle.std.specs.Option.{option_and_then, option_or}
 use Rattle.std.specs.List.{find}
 use Rattle.std.proofs.lemmas.Bool.{cases_Bool}
-use Rattle.list_law.proofs.Options.{cases_Option, option_and_then_parts, unless_parts, when_parts}
+use Rattle.list_law.proofs.Options.{option_and_then_parts, unless_parts, when_parts}
 use Rattle.net_base.specs.declared.numbers.Tag.{Tag}
 use Rattle.net_base.specs.Network.{PlainNet, is_named, is_router}
 use Rattle.net_base.specs.Prefixes.{PlainPrefix}
@@ -12,10 +11,10 @@ use Rattle.config_base.specs.declared.config.RouterConfig.{RouterConfig}
 use Rattle.config_base.specs.declared.config.Session.{Session}
 use Rattle.config_base.specs.Configs.{PlainConfig}
 use Rattle.config_base.specs.Lines.{block_at, class_of, export_by, export_of, import_of, is_looped, line_by, router_at}
-use Rattle.rollout_base.specs.Lines.{AreApart, GivesTag, ReadsAs, SaysNoMore, sends, takes}
+use Rattle.rollout_base.specs.Lines.{GivesTag, ReadsAs, SaysNoMore, sends, takes}
 use Rattle.rollout_base.specs.Mixtures.{Part}
-use Rattle.rollout_base.specs.Stages.{HasStartsOf, IsOfRollout, IsRollout, IsStage, MayMix, SayAlike, staged}
-use Rattle.rollout_stages.specs.Laws.{StagesReadAsStarts, StagesSayNoMore}
+use Rattle.rollout_base.specs.Stages.{AreStages, HasStartsOf, IsOfRollout, MayMix, staged}
+use Rattle.rollout_stages.specs.Laws.{RolloutsHaveStages, StagesReadAsStarts, StagesSayNoMore}
 
 -- ---- of options
 
@@ -29,7 +28,7 @@ adds_nothing (Some y) b never = refl
 adds_nothing None None never = refl
 adds_nothing None (Some x) never = absurd (never x refl refl)
 
-pub twice : {A : Type 0} (a b : Option A) → a ≡ b → option_or a b ≡ a
+twice : {A : Type 0} (a b : Option A) → a ≡ b → option_or a b ≡ a
 twice (Some y) b same = refl
 twice None b same = sym same
 
@@ -100,7 +99,7 @@ stages_read_as_starts net p start other stage r is mix = record {
 
 -- a part says no more than itself
 module _ (net : PlainNet) (p : PlainPrefix) (x y : Part) where
-  pub itself : (r : ℕ) → SaysNoMore net p x y r x
+  itself : (r : ℕ) → SaysNoMore net p x y r x
   itself r = record {
     own = λ origin. inl (origin, refl);
     sent = λ z tag t e. inl e;
@@ -118,23 +117,35 @@ module _ (net : PlainNet) (p : PlainPrefix) (x y : Part) where
       turned (inl a) = inr a
       turned (inr b) = inl b
 
-  pub reads_itself : (r : ℕ) → ReadsAs net p x r x
+  reads_itself : (r : ℕ) → ReadsAs net p x r x
   reads_itself r = record { origin = refl; own = λ origin. refl; sent = λ z t gives. refl; taken = λ u path t from gives. refl; heard = λ u path t off. refl }
 
 pub mix_swapped : (net : PlainNet) (p : PlainPrefix) (x y : Part) → MayMix net p x y → MayMix net p y x
 mix_swapped net p x y (inl apart) = inl (record { one = apart.other; other = apart.one })
 mix_swapped net p x y (inr alike) = inr (record { own = λ r. sym (alike.own r); sent = λ r z tag. sym (alike.sent r z tag); taken = λ r u path tag. sym (alike.taken r u path tag) })
 
-module _ (net : PlainNet) (p : PlainPrefix) (x y : Part) (stage : PlainConfig) (is : IsStage net p x.config y.config stage) where
-  pub starts_say : (r : ℕ) (part : Part) → HasStartsOf x stage part → SaysNoMore net p x y r part
-  starts_say r part (inl same) = subst (SaysNoMore net p x y r) (sym same) (itself net p x y r)
-  starts_say r part (inr same) = subst (SaysNoMore net p x y r) (sym same) (stages_say_no_more net p x y stage r is)
+pub rollouts_have_stages : RolloutsHaveStages
+rollouts_have_stages net p old new one two is = record {
+  mix = is.mix;
+  first_says = λ r. stages_say_no_more net p old new one r is.first;
+  first_reads = λ r. stages_read_as_starts net p old new one r is.first is.mix;
+  second_says = λ r. swapped net p new old r (staged new two) (stages_say_no_more net p new old two r is.second);
+  second_reads = λ r. stages_read_as_starts net p new old two r is.second (mix_swapped net p old new is.mix);
+}
 
-  pub starts_read : MayMix net p x y → (r : ℕ) (part : Part) → HasStartsOf x stage part → ReadsAs net p x r part
-  starts_read mix r part (inl same) = subst (ReadsAs net p x r) (sym same) (reads_itself net p x y r)
-  starts_read mix r part (inr same) = subst (ReadsAs net p x r) (sym same) (stages_read_as_starts net p x y stage r is mix)
+-- ---- what the parts of a rollout say
 
-pub parts_say : (net : PlainNet) (p : PlainPrefix) (old new : Part) (one two : PlainConfig) → IsRollout net p old new one two → (r : ℕ) (part : Part) → IsOfRollout old new one two part
-    → SaysNoMore net p old new r part
-parts_say net p old new one two is r part (inl x) = starts_say net p old new one is.first r part x
-parts_say net p old new one two is r part (inr x) = swapped net p new old r part (starts_say net p new old two is.second r part x)
+module _ (net : PlainNet) (p : PlainPrefix) (old new : Part) (one two : PlainConfig) (are : AreStages net p old new one two) where
+  pub first_read : (r : ℕ) (part : Part) → HasStartsOf old one part → ReadsAs net p old r part
+  first_read r part (inl same) = subst (ReadsAs net p old r) (sym same) (reads_itself net p old new r)
+  first_read r part (inr same) = subst (ReadsAs net p old r) (sym same) (are.first_reads r)
+
+  pub last_read : (r : ℕ) (part : Part) → HasStartsOf new two part → ReadsAs net p new r part
+  last_read r part (inl same) = subst (ReadsAs net p new r) (sym same) (reads_itself net p new old r)
+  last_read r part (inr same) = subst (ReadsAs net p new r) (sym same) (are.second_reads r)
+
+  pub parts_say : (r : ℕ) (part : Part) → IsOfRollout old new one two part → SaysNoMore net p old new r part
+  parts_say r part (inl (inl same)) = subst (SaysNoMore net p old new r) (sym same) (itself net p old new r)
+  parts_say r part (inl (inr same)) = subst (SaysNoMore net p old new r) (sym same) (are.first_says r)
+  parts_say r part (inr (inl same)) = subst (SaysNoMore net p old new r) (sym same) (swapped net p new old r new (itself net p new old r))
+  parts_say r part (inr (inr same)) = subst (SaysNoMore net p old new r) (sym same) (are.second_says r)

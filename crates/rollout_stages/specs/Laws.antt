@@ -3,21 +3,15 @@ use Rattle.std.specs.Prelude.{◌≡◌, ℕ, Bool, IsTrue, List}
 use Rattle.net_base.specs.Network.{PlainNet, IsNet, is_peer}
 use Rattle.net_base.specs.Prefixes.{PlainPrefix, IsPrefix}
 use Rattle.policy_base.specs.Policies.{IsPolicyOf}
-use Rattle.policy_base.specs.Governing.{is_origin}
-use Rattle.config_base.specs.declared.route.Route.{Route}
 use Rattle.config_base.specs.Configs.{PlainConfig, IsConfig}
 use Rattle.evidence_base.specs.Made.{PlainCaseEvidence}
 use Rattle.evidence_law.specs.Passes.{Passes}
-use Rattle.outcome_base.specs.Outcomes.{Failures}
-use Rattle.event_base.specs.Steps.{IsQuiet, opening, run}
-use Rattle.event_base.specs.World.{World}
+use Rattle.event_base.specs.Steps.{opening, run}
 use Rattle.event_law.specs.Kept.{IsKept}
-use Rattle.settled_law.specs.Settled.{IsFullyStable}
-use Rattle.event_law.specs.Scenarios.{IsScenarioOf, routes_of}
 use Rattle.rollout_base.specs.Lines.{ReadsAs, SaysNoMore}
 use Rattle.rollout_base.specs.Mixtures.{Change, Loaded, Mixture, Part, Running, after, all_run, begins, mixed, without_loads}
 use Rattle.rollout_base.specs.Moments.{IsRightByEither}
-use Rattle.rollout_base.specs.Stages.{HasStartsOf, IsOfRollout, IsRollout, IsStage, MayMix, staged}
+use Rattle.rollout_base.specs.Stages.{AreStages, HasStartsOf, IsOfRollout, IsRollout, IsStage, MayMix, staged}
 use Rattle.rollout_law.specs.Laws.{HasTagsOf}
 
 -- A stage says nothing that neither of its two configurations says.
@@ -32,34 +26,24 @@ StagesReadAsStarts =
     (net : PlainNet) (p : PlainPrefix) (start other : Part) (stage : PlainConfig) (r : ℕ) → IsStage net p start.config other.config stage → MayMix net p start other
     → ReadsAs net p start r (staged start stage)
 
+-- So the two stages of a rollout are stages.
+abbrev pub RolloutsHaveStages : Type 0
+RolloutsHaveStages = (net : PlainNet) (p : PlainPrefix) (old new : Part) (one two : PlainConfig) → IsRollout net p old new one two → AreStages net p old new one two
+
 -- From the beginning on loads of the old configuration and of stage 1 change nothing, whatever happens: not one message.
 abbrev pub FirstLoadsChangeNothing : Type 0
 FirstLoadsChangeNothing =
-    (net : PlainNet) (says : ℕ → Bool) (p : PlainPrefix) (old new : Part) (one two : PlainConfig) (cs : List Change) (m : Mixture) → IsNet net → IsRollout net p old new one two
+    (net : PlainNet) (says : ℕ → Bool) (p : PlainPrefix) (old new : Part) (one two : PlainConfig) (cs : List Change) (m : Mixture) → IsNet net → AreStages net p old new one two
     → ((r : ℕ) → HasStartsOf old one (m r)) → Loaded (λ r part. HasStartsOf old one part) cs
     → (after net says p cs (begins net says p m)).world ≡ run (mixed net says p (all_run old)) (without_loads cs) (opening (mixed net says p (all_run old)))
 
 -- Where each route has a tag of the new configuration, so it is of loads of stage 2 and of the new configuration, and each goes on to.
 abbrev pub LastLoadsChangeNothing : Type 0
 LastLoadsChangeNothing =
-    (net : PlainNet) (says : ℕ → Bool) (p : PlainPrefix) (old new : Part) (one two : PlainConfig) (cs : List Change) (s : Running) → IsNet net → IsRollout net p old new one two
+    (net : PlainNet) (says : ℕ → Bool) (p : PlainPrefix) (old new : Part) (one two : PlainConfig) (cs : List Change) (s : Running) → IsNet net → AreStages net p old new one two
     → IsKept (mixed net says p s.runs) s.world → HasTagsOf net p new s.world
     → ((r : ℕ) → HasStartsOf new two (s.runs r)) → Loaded (λ r part. HasStartsOf new two part) cs
     → ((after net says p cs s).world ≡ run (mixed net says p (all_run new)) (without_loads cs) s.world) × HasTagsOf net p new (after net says p cs s).world
-
--- That is so where all routers run these two and no message waits.
-abbrev pub RestingStageIsNew : Type 0
-RestingStageIsNew =
-    (net : PlainNet) (says : ℕ → Bool) (p : PlainPrefix) (old new : Part) (one two : PlainConfig) (m : Mixture) (w : World Route) → IsRollout net p old new one two
-    → ((r : ℕ) → HasStartsOf new two (m r)) → IsKept (mixed net says p m) w → IsQuiet w → HasTagsOf net p new w
-
--- Whatever was run and loaded before: once all run these two, and no message waits, the routes are a settled outcome of the new configuration under
--- what has failed. The peers that are origins by the new policy announce.
-abbrev pub RolloutsEndInNew : Type 0
-RolloutsEndInNew =
-    (net : PlainNet) (p : PlainPrefix) (old new : Part) (one two : PlainConfig) (m : Mixture) (es : List Change) (f : Failures) → IsNet net → IsRollout net p old new one two
-    → let s = after net (is_origin net new.policy p) p es (begins net (is_origin net new.policy p) p m) in
-    ((r : ℕ) → HasStartsOf new two (s.runs r)) → IsQuiet s.world → IsScenarioOf net s.world f → IsFullyStable net new.policy new.config f p (routes_of net s.world)
 
 -- Whatever each router runs and loads of the four, in any order: after each list of events and loads what is held and heard one of the two
 -- policies lets be.
@@ -67,7 +51,7 @@ abbrev pub RolloutsAreSafe : Type 0
 RolloutsAreSafe =
     (net : PlainNet) (p : PlainPrefix) (old new : Part) (one two : PlainConfig) (cs ds : List PlainCaseEvidence) → IsNet net
     → IsPolicyOf net old.policy → Passes net old.policy old.config cs → IsConfig old.config → IsPolicyOf net new.policy → Passes net new.policy new.config ds
-    → IsPrefix p → IsRollout net p old new one two
+    → IsPrefix p → AreStages net p old new one two
     → (says : ℕ → Bool) → ((a : ℕ) → IsTrue (says a) → IsTrue (is_peer net a))
     → (m : Mixture) → ((r : ℕ) → IsOfRollout old new one two (m r)) → (es : List Change) → Loaded (λ r part. IsOfRollout old new one two part) es
     → IsRightByEither net old.policy new.policy p (after net says p es (begins net says p m)).world

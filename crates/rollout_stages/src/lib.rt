@@ -1,29 +1,38 @@
 //! What the stages between two configurations say, and what holds on the way from one to the other: laws without code.
 //!
-//! A rollout has four configurations (`IsRollout` of `rollout_base`): the old one; stage 1, which has the lines of both and the
-//! starts of the old one; stage 2, which has the lines of both and the starts of the new one; and the new one. Routers load
-//! stage 1, then stage 2, then the new one.
+//! A rollout has four configurations: the old one; stage 1, which has the lines of both and the starts of the old one; stage 2,
+//! which has the lines of both and the starts of the new one; and the new one. Routers load stage 1, then stage 2, then the new
+//! one. `AreStages` of `rollout_base` says what is asked of the two stages, by what they say of a prefix alone.
 //!
 //! | Law | It says | It needs |
 //! |---|---|---|
-//! | `stages_say_no_more` | a stage says nothing that neither of the two says, and reads the routes of its starts as their own configuration does | how the stage was made (`IsStage`), and that the two may mix (`MayMix`) |
-//! | `rollouts_are_still` | from the old configuration to stage 1, and from stage 2 at rest to the new one, loads change nothing at all | the same |
-//! | `stage_two_at_rest_is_new` | once all run stage 2 or the new one and no message waits, each route is the new one's, and the routes are a settled outcome of it | the same |
-//! | `rollouts_are_safe` | whatever is loaded, in any order and at any time: each path that is held or heard the old policy or the new one lets be | the same, and evidence that passes for both |
+//! | `every_moment_of_a_rollout_is_right` | whatever parts routers run and load, in any order and at any time: each path that is held or heard the old policy or the new one lets be | evidence that passes for both, tags that are apart, and parts that say no more than these two |
+//! | `rollouts_are_safe` | so it is of the four configurations | the same, and `AreStages` |
+//! | `rollouts_are_still` | from the old configuration to stage 1, and from stage 2 with all routes new to the new one, loads change nothing at all | `AreStages` |
+//! | `stages_say_no_more` | stages that have the lines of both are such stages | how they were made (`IsRollout`) |
 //!
-//! Where two configurations say the same of a prefix, their tags needn't be apart for it. Then only who originates may differ,
-//! and an origin by one policy alone has no tag that anybody reads.
+//! Why the first: each route that stands anywhere runs in the graph of the old case or in that of the new one. `proofs/OfCase`
+//! shows that the routes of one configuration are a kind of routes that its own lines keep, and what the policy says of their
+//! paths; `rollout_law/proofs/Layers` that two such kinds stay apart under all events and loads. Where two configurations say
+//! the same of a prefix, their tags needn't be apart for it (`proofs/Alike`): then only who originates may differ, and an origin
+//! by one policy alone has no tag that anybody reads.
 //!
-//! Nothing here knows how a stage is made, and none of it asks anything of preferences.
+//! Nothing here knows how parts are made, and none of it asks anything of preferences, or of rest.
 #![tactic(auto)]
 
-ghost use Rattle.rollout_stages.specs.Laws.{FirstLoadsChangeNothing, LastLoadsChangeNothing, RestingStageIsNew, RolloutsAreSafe, RolloutsEndInNew, StagesReadAsStarts, StagesSayNoMore};
+ghost use Rattle.rollout_stages.specs.Laws.{FirstLoadsChangeNothing, LastLoadsChangeNothing, RolloutsAreSafe, RolloutsHaveStages, StagesReadAsStarts, StagesSayNoMore};
+ghost use Rattle.rollout_stages.specs.Moments.{EveryMomentOfARolloutIsRight};
 
-/// A stage does nothing with a prefix that neither of the two configurations does, and with the routes of the one whose starts it
-/// has just what that one does.
-pub fn stages_say_no_more()
-    ensures no_more { StagesSayNoMore }
-    ensures reads { StagesReadAsStarts }
+/// Two configurations with evidence that passes, and tags apart. Whatever parts the routers run and take that say no more than these
+/// two, in whatever order, and whatever fails, comes back and waits meanwhile: each path that is held or heard the old policy or the new
+/// one lets be.
+pub fn every_moment_of_a_rollout_is_right()
+    ensures { EveryMomentOfARolloutIsRight }
+{}
+
+/// Each path that is held or heard on the way is one that the old policy or the new one lets be.
+pub fn rollouts_are_safe()
+    ensures { RolloutsAreSafe }
 {}
 
 /// Loads of the old configuration and of stage 1 change nothing from the beginning on, and loads of stage 2 and of the new
@@ -33,14 +42,10 @@ pub fn rollouts_are_still()
     ensures last { LastLoadsChangeNothing }
 {}
 
-/// Where all routers run stage 2 or the new configuration, and no message waits, each route has a tag that the new one gives,
-/// and the routes are a settled outcome of it.
-pub fn stage_two_at_rest_is_new()
-    ensures tags { RestingStageIsNew }
-    ensures settled { RolloutsEndInNew }
-{}
-
-/// Each path that is held or heard on the way is one that the old policy or the new one lets be.
-pub fn rollouts_are_safe()
-    ensures { RolloutsAreSafe }
+/// A stage that has the lines of two configurations, and the starts of one of them, does nothing with a prefix that neither does, and
+/// with the routes of its starts just what their own configuration does. So two of them are the stages of a rollout.
+pub fn stages_say_no_more()
+    ensures no_more { StagesSayNoMore }
+    ensures reads { StagesReadAsStarts }
+    ensures stages { RolloutsHaveStages }
 {}

@@ -1,0 +1,10 @@
+pub mod Alone
+pub mod Earlier
+pub mod Later
+pub mod Orders
+pub mod Parts
+pub mod Resters
+pub mod Rest
+pub mod Setting
+pub mod Sides
+pub mod Two

@@ -1,0 +1,24 @@
+//! Mixtures of the lines of two configurations come to rest: laws without code.
+//!
+//! On the way from an old configuration to a new one some routers already have the new starts, some haven't, some have the lines of
+//! both (`IsBetween` of `specs/Between`). As long as nobody loads anything, messages come to an end, whatever was run and loaded
+//! before. It takes that the evidence of both passes, and that every preference of the new one is above every one of the old one:
+//! then a router that is given a new route holds one.
+//!
+//! Why: for each world `rest_law` has an order in which the routers of one configuration settle. First those settle that come to
+//! hold a new route, as in the new network where the routers that take no part are dead and some hear no peers: what comes to
+//! them is new, and comes there too, or an old line gave it, and it comes later (`proofs/Later`). Once they are settled nothing new
+//! comes to the others, and these settle as in the old network where besides they are dead (`proofs/Earlier`). `proofs/Setting`
+//! compares one side with its own network, what is said and what is taken; `proofs/Rest` puts the two orders together.
+//!
+//! Nothing here knows how stages are made, or what a policy allows.
+#![tactic(auto)]
+
+ghost use Rattle.rollout_mixtures.specs.Laws.{MixturesComeToRest, RolloutsAreBetween};
+
+/// From the moment on when nobody loads any more, so many rounds of deliveries end all messages, whatever each router runs of an old and
+/// a new configuration. Each part of a rollout is such.
+pub fn mixtures_come_to_rest()
+    ensures between { RolloutsAreBetween }
+    ensures rest { MixturesComeToRest }
+{}

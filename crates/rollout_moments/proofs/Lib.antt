@@ -1,3 +1,0 @@
-pub mod Alike
-pub mod Moments
-pub mod OfCase
