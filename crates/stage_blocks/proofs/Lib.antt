@@ -1,0 +1,4 @@
+pub mod Merged
+pub mod Ordered
+pub mod Runs
+pub mod Spreading

@@ -1,0 +1,5 @@
+pub mod Ends
+pub mod Found
+pub mod OwnLines
+pub mod Says
+pub mod Lawful

@@ -1,0 +1,22 @@
+//! The configuration of a stage between two others.
+//!
+//! A stage has the lines of two configurations, and the starts of one of them: a *start* is an `originate` line, or an import in the
+//! block of a peer. So a router that runs it sends and takes what either of the two sends and takes, and begins no route but those of
+//! its starts. Whatever the two have in them, that is so for every network, prefix and router (`StagesAreMade`).
+//!
+//! - `specs/Alike`: two configurations of the same routers, with the same neighbours (`AreAlike`). Of others no stage is made.
+//! - `specs/Joined`: the configuration that is made (`joined`), block by block.
+//! - `specs/Laws`: it keeps the rules of configurations, and it is a stage.
+//!
+//! The cells say which classes of the two come together. Where the starts are those of the new configuration, the two change places,
+//! and so do the sides of the cells.
+//!
+//! Nothing here asks whether the two may be mixed: that is a question of their tags.
+#![tactic(auto)]
+
+mod join;
+mod laws;
+mod own;
+
+pub use join::joined;
+pub use laws::stages_are_made;
