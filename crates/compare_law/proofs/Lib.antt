@@ -1,0 +1,12 @@
+mod Ranked
+mod Cases
+mod Rows
+mod Origins
+mod Alike
+mod Bare
+mod Same
+mod Failing
+mod Alone
+mod Lost
+mod First
+mod Unsaid
