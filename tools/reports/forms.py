@@ -120,7 +120,7 @@ ABOVE = {"promises": ("case", frozenset({"uncarried", "cases"})), "whatif": ("cu
          "impact": ("cut", frozenset({"cuts"}))}
 NONE_ABOVE: tuple[str, frozenset[str]] = ("", frozenset())
 # What the other commands write is no report: a configuration, evidence, maps or a page of help.
-NO_REPORTS = {"compile", "evidence", "migrate", "routemap", "help"}
+NO_REPORTS = {"compile", "evidence", "migrate", "routemap", "help", "maps"}
 
 
 def forms_of(command: str) -> list[Form]:

@@ -6,7 +6,7 @@ mod judging;
 mod program;
 mod telling;
 
-pub use compiling::{COMPILE, EVIDENCE, MIGRATE, ROUTEMAP, SAMPLE};
+pub use compiling::{COMPILE, EVIDENCE, MAPS, MIGRATE, ROUTEMAP, SAMPLE};
 pub use judging::{AUDIT, CHECK, CHECKMAP, EXPLAIN, LINT};
 pub use program::{COMMANDS, HELP, USAGE, VERSION, VERSION_PAGE};
 pub use telling::{DRAIN, IMPACT, MULTIPATH, PROMISES, REPLAY, SETTLE, TRACE, WHATIF};

@@ -47,6 +47,8 @@ pub enum Topic {
     WhatIf,
     /// `multipath`.
     Multipath,
+    /// `maps`.
+    Maps,
 }
 
 impl Topic {
@@ -75,6 +77,7 @@ impl Topic {
             "promises" => Some(Topic::Promises),
             "whatif" => Some(Topic::WhatIf),
             "multipath" => Some(Topic::Multipath),
+            "maps" => Some(Topic::Maps),
             _ => None,
         }
     }
@@ -104,6 +107,7 @@ impl Topic {
             Topic::Promises => pages::PROMISES,
             Topic::WhatIf => pages::WHATIF,
             Topic::Multipath => pages::MULTIPATH,
+            Topic::Maps => pages::MAPS,
         }
     }
 }

@@ -7,4 +7,5 @@ pub mod LintLaws
 pub mod Showing
 mod MapJobLaws
 pub mod CheckMapLaws
+pub mod ConfigMapLaws
 pub mod RouteMapLaws

@@ -18,7 +18,7 @@ use Rattle.judging_jobs.specs.MapsJobs.{SaysOfConfig, SaysOfPolicy}
 -- ---- the form of what is said
 
 module _ (Refuses Checks : Type 0) (refuses : Refuses) where
-  config_form : (config : PlainConfig) (what : Said) → SaysOfConfig config what → IsJobSaid Refuses Checks what
+  pub config_form : (config : PlainConfig) (what : Said) → SaysOfConfig config what → IsJobSaid Refuses Checks what
   config_form config what (inl h) = in_text _ h.2
   config_form config what (inr many) = in_refusal refuses _ many.said
 
@@ -28,7 +28,7 @@ module _ (Refuses Checks : Type 0) (refuses : Refuses) where
 
 -- ---- one thing is said
 
-one_of_config : (config : PlainConfig) (one other : Said) → SaysOfConfig config one → SaysOfConfig config other → one ≡ other
+pub one_of_config : (config : PlainConfig) (one other : Said) → SaysOfConfig config one → SaysOfConfig config other → one ≡ other
 one_of_config config one other (inl a) (inl b) = a.2 ∙ sym b.2
 one_of_config config one other (inl a) (inr b) = absurd (omega (arith, a.0, b.many))
 one_of_config config one other (inr a) (inl b) = absurd (omega (arith, b.0, a.many))

@@ -1,4 +1,5 @@
 pub mod Checked
+pub mod ConfigMaps
 pub mod VerdictLines
 pub mod Asked
 pub mod Audited

@@ -4,26 +4,15 @@ ghost use Rattle.policy_base.specs.Policies.{policy_of};
 ghost use Rattle.policy_base.specs.CaseNumbers.{OriginsAreRouters};
 ghost use Rattle.run_base.specs.Said.{IsGiven, said};
 ghost use Rattle.input_texts.specs.Texts.{OfTexts};
-ghost use Rattle.judging_jobs.specs.MapsJobs.{SaysOfConfig, SaysOfPolicy};
+ghost use Rattle.judging_jobs.specs.MapsJobs.{SaysOfPolicy};
 
-use crate::maps::maps_of_config;
+use crate::maps::maps_text_of;
 use compile_jobs::compiled_for;
-use config_base::Config;
 use input_texts::{net_of, policy_for};
 use net_base::Net;
 use policy_base::Policy;
-use route_map_text::print_maps;
 use run_base::Stop;
 use std::alloc::Global;
-
-// The text of a configuration's maps, or that they have too many lines.
-#[tactic(auto, using(crate::proofs::MapJobLaws::config_said))]
-fn config_text(alloc: Global, config: &Config) -> Result<Vec<u8>, Stop>
-    ensures { IsGiven (SaysOfConfig config.now) (said result) }
-{
-    let maps = maps_of_config(alloc, config)?;
-    Ok(print_maps(alloc, &maps)?)
-}
 
 // The text of the maps of the configuration that is compiled from the policy, or why the run stops.
 fn policy_text(alloc: Global, net: &Net, policy: &Policy) -> Result<Vec<u8>, Stop>
@@ -31,7 +20,7 @@ fn policy_text(alloc: Global, net: &Net, policy: &Policy) -> Result<Vec<u8>, Sto
     ensures { IsGiven (SaysOfPolicy net.now (policy_of policy.now)) (said result) }
 {
     let compiled = compiled_for(alloc, net, policy)?;
-    config_text(alloc, &compiled.config)
+    maps_text_of(alloc, &compiled.config)
 }
 
 /// What the texts of a topology and of a policy come to: the text of the maps of the configuration that is compiled, or why

@@ -6,6 +6,7 @@ pub mod CheckMap
 pub mod Explain
 pub mod Impact
 pub mod Lint
+pub mod Maps
 pub mod Migrate
 pub mod Promises
 pub mod Replay

@@ -28,6 +28,7 @@ use Rattle.judging_jobs.proofs.LintLaws.{lint_job}
 use Rattle.judging_jobs.proofs.CheckMapLaws.{check_map_job}
 use Rattle.judging_jobs.proofs.RouteMapLaws.{route_map_job}
 use Rattle.judging_jobs.proofs.MigrateLaws.{migrate_job}
+use Rattle.judging_jobs.proofs.ConfigMapLaws.{config_maps_job}
 use Rattle.report_jobs.proofs.ReplayLaws.{replay_job}
 use Rattle.report_jobs.proofs.TraceLaws.{trace_job}
 use Rattle.report_jobs.proofs.DrainLaws.{drain_job}
@@ -38,7 +39,7 @@ use Rattle.report_jobs.proofs.WhatIfLaws.{whatif_job}
 use Rattle.report_jobs.proofs.MultipathLaws.{multipath_job}
 use Rattle.propane_run.specs.declared.command.Command.{Command}
 use Rattle.propane_run.specs.declared.command.Command.TheVariants.{Compile, Evidence, Check, Explain, Impact, RouteMap, CheckMap, Lint, Audit, Migrate}
-use Rattle.propane_run.specs.declared.command.Command.TheVariants.{Sample, Help, Version, Promises, Under, After}
+use Rattle.propane_run.specs.declared.command.Command.TheVariants.{Sample, Help, Version, Promises, Maps, Under, After}
 use Rattle.propane_run.specs.declared.command.Course.{Course}
 use Rattle.propane_run.specs.declared.command.Course.TheVariants.{Trace, Settle}
 use Rattle.propane_run.specs.declared.command.Outlook.{Outlook}
@@ -81,6 +82,7 @@ job_is Audit = audit_job ⊥ (Unit {0}) tt
 job_is (Help topic) = text_job (help_text topic) ⊥ ⊥
 job_is Version = text_job version_text ⊥ ⊥
 job_is Promises = promises_job (Unit {0}) ⊥ tt
+job_is Maps = config_maps_job (Unit {0}) ⊥ tt
 job_is (Under outlook) = under_is outlook
 job_is (After course) = after_is course
 

@@ -9,7 +9,7 @@ use Rattle.run_base.specs.Said.{text, Whole}
 use Rattle.run_base.proofs.Sent.{Gives, text_sent}
 use Rattle.propane_run.specs.declared.command.Command.{Command}
 use Rattle.propane_run.specs.declared.command.Command.TheVariants.{Compile, Evidence, Check, Explain, Impact, RouteMap, CheckMap, Lint, Audit, Migrate}
-use Rattle.propane_run.specs.declared.command.Command.TheVariants.{Sample, Help, Version, Promises, Under, After}
+use Rattle.propane_run.specs.declared.command.Command.TheVariants.{Sample, Help, Version, Promises, Maps, Under, After}
 use Rattle.propane_run.specs.Ends.{EndsRight, Compiles as EndsCompiling}
 use Rattle.propane_run.specs.Run.{Job}
 use Rattle.propane_run.specs.Words.{names_read}
@@ -18,6 +18,7 @@ use Rattle.propane_run.proofs.ByCommand.Check as check
 use Rattle.propane_run.proofs.ByCommand.CheckMap as check_map
 use Rattle.propane_run.proofs.ByCommand.Explain as explain
 use Rattle.propane_run.proofs.ByCommand.Lint as lint
+use Rattle.propane_run.proofs.ByCommand.Maps as maps
 use Rattle.propane_run.proofs.ByCommand.Migrate as migrate
 use Rattle.propane_run.proofs.ByCommand.RouteMap as route_map
 use Rattle.propane_run.proofs.Compilers as compilers
@@ -82,5 +83,9 @@ module _ {O E : Type 0} (ot : O → Option (List ℕ)) (of : O → ℕ) (et : E 
     ends (Help topic) gives = own (help_text topic) gives
     ends Version gives = own version_text gives
     ends Promises gives = compiling Promises tt gives
+    ends Maps gives = λ config asks. (
+      λ few calm. maps.mapped_where holds words config asks ot of et ef out out' err err' ended few calm gives,
+      λ many calm. maps.too_many_where holds words config asks ot of et ef out out' err err' ended many calm gives,
+    )
     ends (Under outlook) gives = compiling (Under outlook) tt gives
     ends (After course) gives = compiling (After course) tt gives

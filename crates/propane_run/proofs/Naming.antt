@@ -10,7 +10,7 @@ use Rattle.list_law.proofs.Options.{option_and_then_parts, option_map_parts}
 use Rattle.list_law.proofs.Tests.{find_parts}
 use Rattle.propane_run.specs.declared.command.Command.{Command}
 use Rattle.propane_run.specs.declared.command.Command.TheVariants.{Compile, Evidence, Check, Explain, Impact, RouteMap, CheckMap, Lint, Audit, Migrate}
-use Rattle.propane_run.specs.declared.command.Command.TheVariants.{Sample, Help, Version, Promises, Under, After}
+use Rattle.propane_run.specs.declared.command.Command.TheVariants.{Sample, Help, Version, Promises, Maps, Under, After}
 use Rattle.propane_run.specs.declared.command.Course.TheVariants.{Trace, Settle}
 use Rattle.propane_run.specs.declared.command.Outlook.TheVariants.{Replay, Drain, WhatIf, Multipath}
 use Rattle.propane_run.specs.Words.{command_of, help_of, name_count, names_read, other_words, prefix_word, sample_number, topic_asked, words_are}
@@ -31,6 +31,7 @@ topic_of Audit = topic.Audit
 topic_of (Help t) = topic.Help
 topic_of Version = topic.Version
 topic_of Promises = topic.Promises
+topic_of Maps = topic.Maps
 topic_of (Under Replay) = topic.Replay
 topic_of (Under Drain) = topic.Drain
 topic_of (Under WhatIf) = topic.WhatIf
@@ -69,6 +70,7 @@ named topic.Settle rest c h = is_of (After Settle) c topic.Settle refl h
 named topic.Promises rest c h = is_of Promises c topic.Promises refl h
 named topic.WhatIf rest c h = is_of (Under WhatIf) c topic.WhatIf refl h
 named topic.Multipath rest c h = is_of (Under Multipath) c topic.Multipath refl h
+named topic.Maps rest c h = is_of Maps c topic.Maps refl h
 
 -- a word by which every program is asked names help or the version alone
 own_word : (help version : Bool) (word : List ℕ) (t : Topic) → t ≢ topic.Help → t ≢ topic.Version

@@ -13,7 +13,7 @@ use Rattle.report_jobs.specs.WhatIfs.{WritesWhatIf}
 use Rattle.report_jobs.specs.Spread.{WritesMultipath}
 use Rattle.propane_run.specs.declared.command.Command.{Command}
 use Rattle.propane_run.specs.declared.command.Command.TheVariants.{Compile, Evidence, Check, Explain, Impact, RouteMap, CheckMap, Lint, Audit, Migrate}
-use Rattle.propane_run.specs.declared.command.Command.TheVariants.{Sample, Help, Version, Promises, Under, After}
+use Rattle.propane_run.specs.declared.command.Command.TheVariants.{Sample, Help, Version, Promises, Maps, Under, After}
 use Rattle.propane_run.specs.declared.command.Course.{Course}
 use Rattle.propane_run.specs.declared.command.Course.TheVariants.{Trace, Settle}
 use Rattle.propane_run.specs.declared.command.Outlook.{Outlook}
@@ -27,6 +27,7 @@ use Rattle.propane_run.proofs.ByCommand.CheckMap as check_map
 use Rattle.propane_run.proofs.ByCommand.Explain as explain
 use Rattle.propane_run.proofs.ByCommand.Impact as impact
 use Rattle.propane_run.proofs.ByCommand.Lint as lint
+use Rattle.propane_run.proofs.ByCommand.Maps as maps
 use Rattle.propane_run.proofs.ByCommand.Migrate as migrate
 use Rattle.propane_run.proofs.ByCommand.Promises as promises
 use Rattle.propane_run.proofs.ByCommand.Replay as replay
@@ -64,6 +65,7 @@ module _ {S : Type 0} (holds : Holds) (words : List (List ℕ)) (taken : S → O
   done (Help topic) comes = rw (out_is _ _ comes.says) at written
   done Version comes = rw (out_is _ _ comes.says) at written
   done Promises comes = promises.right holds words taken before now b written comes
+  done Maps comes = maps.right holds words taken before now b written comes
   done (Under outlook) comes = under outlook comes
   done (After course) comes = after course comes
 
@@ -71,6 +73,7 @@ module _ {S : Type 0} (holds : Holds) (words : List (List ℕ)) (taken : S → O
   refused RouteMap refuses comes = route_map.refused holds words taken before now b written comes
   refused CheckMap refuses comes = check_map.refused holds words taken before now b written comes
   refused Lint refuses comes = lint.refused holds words taken before now b written comes
+  refused Maps refuses comes = maps.refused holds words taken before now b written comes
   refused Compile refuses comes = compilers.refused holds words taken before now b written Compile refuses comes
   refused Evidence refuses comes = compilers.refused holds words taken before now b written Evidence refuses comes
   refused (Impact x) refuses comes = compilers.refused holds words taken before now b written (Impact x) refuses comes

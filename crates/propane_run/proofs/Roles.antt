@@ -1,6 +1,6 @@
 -- Which commands compile, which may refuse, and which judge what they are given.
 use Rattle.propane_run.specs.declared.command.Command.{Command}
-use Rattle.propane_run.specs.declared.command.Command.TheVariants.{Compile, Evidence, Check, Impact, RouteMap, CheckMap, Lint, Audit, Sample, Promises, Under, After}
+use Rattle.propane_run.specs.declared.command.Command.TheVariants.{Compile, Evidence, Check, Impact, RouteMap, CheckMap, Lint, Audit, Sample, Promises, Maps, Under, After}
 
 -- it writes a part of what is compiled from a policy, or what comes of it
 abbrev pub Compiles : Command → Type 0
@@ -18,6 +18,7 @@ abbrev pub Refuses : Command → Type 0
 Refuses RouteMap = Unit {0}
 Refuses CheckMap = Unit {0}
 Refuses Lint = Unit {0}
+Refuses Maps = Unit {0}
 Refuses c = Compiles c
 
 -- it judges what it is given

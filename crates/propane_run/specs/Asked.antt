@@ -12,7 +12,7 @@ use Rattle.sample_network.specs.Network.{sample_net}
 use Rattle.sample_network.specs.SamplePolicy.{sample_policy}
 use Rattle.propane_run.specs.declared.command.Command.{Command}
 use Rattle.propane_run.specs.declared.command.Command.TheVariants.{Compile, Evidence, Check, Explain, Impact, RouteMap, CheckMap, Lint, Audit, Migrate}
-use Rattle.propane_run.specs.declared.command.Command.TheVariants.{Sample, Help, Version, Promises, Under, After}
+use Rattle.propane_run.specs.declared.command.Command.TheVariants.{Sample, Help, Version, Promises, Maps, Under, After}
 use Rattle.propane_run.specs.Words.{words_are, names_read}
 use Rattle.run_base.specs.Reading.{Holds, AllHeld}
 
@@ -65,5 +65,6 @@ IsFor holds words Audit net policy = AsksFor holds words Audit net policy
 IsFor holds words (Help topic) net policy = ⊥
 IsFor holds words Version net policy = ⊥
 IsFor holds words Promises net policy = AsksFor holds words Promises net policy
+IsFor holds words Maps net policy = ⊥
 IsFor holds words (Under outlook) net policy = (scenario : Scenario) × AsksUnder holds words (Under outlook) net policy scenario
 IsFor holds words (After course) net policy = (events : Events) × AsksOfEvents holds words (After course) net policy events

@@ -23,11 +23,11 @@ use Rattle.run_base.specs.Reading.{Holds}
 use Rattle.scenarios.specs.Scenarios.{failures_of}
 use Rattle.propane_run.specs.declared.command.Command.{Command}
 use Rattle.propane_run.specs.declared.command.Command.TheVariants.{Compile, Evidence, Check, Explain, Sample, Migrate, Impact, RouteMap, CheckMap, Lint}
-use Rattle.propane_run.specs.declared.command.Command.TheVariants.{Audit, Help, Version, Promises, Under, After}
+use Rattle.propane_run.specs.declared.command.Command.TheVariants.{Audit, Help, Version, Promises, Maps, Under, After}
 use Rattle.propane_run.specs.Asked.{AsksFor, IsFor}
 use Rattle.propane_run.specs.Auditing.{AsksAudit}
 use Rattle.propane_run.specs.Checking.{AsksOf}
-use Rattle.propane_run.specs.Mapping.{AsksOfMaps}
+use Rattle.propane_run.specs.Mapping.{AsksOfConfig, AsksOfMaps}
 use Rattle.propane_run.specs.Migrating.{AsksOfOld}
 
 -- no refusal of the compiler applies
@@ -76,5 +76,6 @@ module _ (holds : Holds) (words : List (List ℕ)) (Succeeds Fails : Type 0) (Re
   EndsRight (Help topic) = Succeeds
   EndsRight Version = Succeeds
   EndsRight Promises = Compiles Promises
+  EndsRight Maps = (config : PlainConfig) → AsksOfConfig holds words config → (AreFew config → Succeeds) × (AreMany config → Refuses (many_line config))
   EndsRight (Under outlook) = Compiles (Under outlook)
   EndsRight (After course) = Compiles (After course)

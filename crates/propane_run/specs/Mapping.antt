@@ -1,4 +1,4 @@
--- What a run of `routemap` or of `checkmap` has written, and for what.
+-- What a run of `routemap`, of `checkmap` or of `maps` has written, and for what.
 use Rattle.std.specs.Prelude.{◌≡◌, ◌≢◌, ℕ, ◌<◌, List, [], ◌∷◌, Option, Ok, Some, min}
 use Rattle.net_base.specs.Network.{PlainNet}
 use Rattle.policy_base.specs.Policies.{PlainPolicy}
@@ -19,7 +19,7 @@ use Rattle.judging_jobs.specs.MapsSaid.{differs_line, same_line, too_many_lines}
 use Rattle.run_base.specs.Reading.{Holds, AllHeld}
 use Rattle.run_base.specs.Said.{Whole}
 use Rattle.propane_run.specs.declared.command.Command.{Command}
-use Rattle.propane_run.specs.declared.command.Command.TheVariants.{RouteMap, CheckMap}
+use Rattle.propane_run.specs.declared.command.Command.TheVariants.{RouteMap, CheckMap, Maps}
 use Rattle.propane_run.specs.Asked.{AsksFor}
 use Rattle.propane_run.specs.Compilation.{Compilation}
 use Rattle.propane_run.specs.Words.{names_read, words_are}
@@ -33,12 +33,20 @@ pub record AsksOfMaps (holds : Holds) (words : List (List ℕ)) (config : PlainC
   pub config_spelled : config_spelled_by config_text ≡ Ok config
   pub maps_spelled : maps_spelled_by maps_bytes ≡ Ok maps
 
+-- The words are `maps`, and the bytes of the one name that it reads spell this configuration.
+pub record AsksOfConfig (holds : Holds) (words : List (List ℕ)) (config : PlainConfig) : Type 0 where
+  pub asked : words_are words ≡ Some Maps
+  pub config_text : List ℕ
+  pub held : AllHeld holds (names_read words Maps) (config_text ∷ [])
+  pub spelled : config_spelled_by config_text ≡ Ok config
+
 -- The configuration of which the command makes maps: of `routemap` that which is compiled from the policy that its inputs spell, and of
--- `checkmap` that which they spell.
+-- `checkmap` and `maps` that which they spell.
 abbrev pub AsksMapsOf : Holds → List (List ℕ) → Command → PlainConfig → Type 0
 AsksMapsOf holds words RouteMap config =
     (net : PlainNet) × (policy : PlainPolicy) × (evidence : List PlainCaseEvidence) × AsksFor holds words RouteMap net policy × IsCompiled net policy config evidence
 AsksMapsOf holds words CheckMap config = (maps : PlainMaps) × AsksOfMaps holds words config maps
+AsksMapsOf holds words Maps config = AsksOfConfig holds words config
 AsksMapsOf holds words _ config = ⊥
 
 -- `out` grew by exactly the text of the maps of the configuration that is compiled from the policy that was asked for. They mean what
@@ -52,6 +60,15 @@ pub record MapsRight {O : Type 0} (holds : Holds) (taken : O → Option (List �
   pub written : Whole taken bytes out out'
   pub spelled : Spells bytes (maps_of made.config)
   pub means : MeansAs made.config (maps_of made.config)
+
+-- `out` grew by exactly the text of the maps of the configuration that was asked of. They mean what its lines mean.
+pub record WritesMaps {O : Type 0} (holds : Holds) (taken : O → Option (List ℕ)) (words : List (List ℕ)) (out out' : O) : Type 0 where
+  pub config : PlainConfig
+  pub asked : AsksOfConfig holds words config
+  pub bytes : List ℕ
+  pub written : Whole taken bytes out out'
+  pub spelled : Spells bytes (maps_of config)
+  pub means : MeansAs config (maps_of config)
 
 -- `out` grew by exactly the line `same`, and the maps that were asked of are those of the configuration. So they mean what its lines mean.
 pub record MapsAgree {O : Type 0} (holds : Holds) (taken : O → Option (List ℕ)) (words : List (List ℕ)) (out out' : O) : Type 0 where

@@ -18,7 +18,7 @@ use Rattle.run_base.specs.Reading.{Holds}
 use Rattle.run_base.specs.Said.{Whole}
 use Rattle.propane_run.specs.declared.command.Command.{Command}
 use Rattle.propane_run.specs.declared.command.Command.TheVariants.{Compile, Evidence, Check, Explain, Sample, Migrate, Impact, RouteMap, CheckMap, Lint}
-use Rattle.propane_run.specs.declared.command.Command.TheVariants.{Audit, Help, Version, Promises, Under, After}
+use Rattle.propane_run.specs.declared.command.Command.TheVariants.{Audit, Help, Version, Promises, Maps, Under, After}
 use Rattle.propane_run.specs.declared.command.Course.{Course}
 use Rattle.propane_run.specs.declared.command.Course.TheVariants.{Trace, Settle}
 use Rattle.propane_run.specs.declared.command.Outlook.{Outlook}
@@ -31,7 +31,7 @@ use Rattle.propane_run.specs.Explaining.{ExplainsRight}
 use Rattle.propane_run.specs.Headline.{CompilesRight, GivesEvidence}
 use Rattle.propane_run.specs.Impacting.{ImpactsRight}
 use Rattle.propane_run.specs.Linting.{LintsRight, TellsLimit}
-use Rattle.propane_run.specs.Mapping.{MapsAgree, MapsRight, TellsDifference, TellsTooMany}
+use Rattle.propane_run.specs.Mapping.{MapsAgree, MapsRight, TellsDifference, TellsTooMany, WritesMaps}
 use Rattle.propane_run.specs.Migrating.{MigratesRight}
 use Rattle.propane_run.specs.Promising.{PromisesRight}
 use Rattle.propane_run.specs.Refusing.{RefusesRight}
@@ -83,6 +83,8 @@ Promised holds taken words (Help topic) Done s s' = Whole taken (help_text topic
 Promised holds taken words Version Done s s' = Whole taken version_text s s'
 Promised holds taken words Promises Done s s' = PromisesRight holds taken words s s'
 Promised holds taken words Promises Refused s s' = RefusesRight holds taken words Promises s s'
+Promised holds taken words Maps Done s s' = WritesMaps holds taken words s s'
+Promised holds taken words Maps Refused s s' = TellsTooMany holds taken words Maps s s'
 Promised holds taken words (Under outlook) Done s s' = AnswersUnder holds taken words outlook s s'
 Promised holds taken words (Under outlook) Refused s s' = RefusesRight holds taken words (Under outlook) s s'
 Promised holds taken words (After course) Done s s' = AnswersAfter holds taken words course s s'

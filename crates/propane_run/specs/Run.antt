@@ -2,7 +2,7 @@
 use Rattle.std.specs.Prelude.{◌≡◌, ℕ, List, Option, Some, None}
 use Rattle.propane_run.specs.declared.command.Command.{Command}
 use Rattle.propane_run.specs.declared.command.Command.TheVariants.{Compile, Evidence, Check, Explain, Impact, RouteMap, CheckMap, Lint, Audit, Migrate}
-use Rattle.propane_run.specs.declared.command.Command.TheVariants.{Sample, Help, Version, Promises, Under, After}
+use Rattle.propane_run.specs.declared.command.Command.TheVariants.{Sample, Help, Version, Promises, Maps, Under, After}
 use Rattle.propane_run.specs.Outlooks.{WritesUnder, WritesAfter}
 use Rattle.propane_run.specs.Words.{names_read, usage, words_are}
 use Rattle.run_base.specs.Reading.{Holds, ReadsAll, AllHeld, FailedAs}
@@ -19,6 +19,7 @@ use Rattle.help_texts.specs.Pages.{help_text, version_text}
 use Rattle.report_jobs.specs.Impacts as impact
 use Rattle.judging_jobs.specs.Linted as lint
 use Rattle.judging_jobs.specs.MapsJobs as maps
+use Rattle.judging_jobs.specs.ConfigMaps as config_maps
 use Rattle.judging_jobs.specs.Migrated as migrate
 use Rattle.compile_jobs.specs.Sampled.{SaysOfNumber}
 use Rattle.compile_jobs.specs.Written.{SaysOfPart}
@@ -42,6 +43,7 @@ Job Audit = audit.SaysOfTexts
 Job (Help topic) = λ bs what. what ≡ text (help_text topic)
 Job Version = λ bs what. what ≡ text version_text
 Job Promises = promises.SaysOfTexts
+Job Maps = config_maps.SaysOfTexts
 Job (Under outlook) = SaysOfThree scenario_line scenario_spelled (WritesUnder outlook)
 Job (After course) = SaysOfThree events_line events_spelled (WritesAfter course)
 

@@ -14,7 +14,7 @@ use Rattle.run_base.specs.Reading.{names_at, word_at}
 use Rattle.run_base.specs.Said.{Said, line}
 use Rattle.propane_run.specs.declared.command.Command.{Command}
 use Rattle.propane_run.specs.declared.command.Command.TheVariants.{Compile, Evidence, Check, Explain, Impact, RouteMap, CheckMap, Lint, Audit, Migrate}
-use Rattle.propane_run.specs.declared.command.Command.TheVariants.{Sample, Help, Version, Promises, Under, After}
+use Rattle.propane_run.specs.declared.command.Command.TheVariants.{Sample, Help, Version, Promises, Maps, Under, After}
 use Rattle.propane_run.specs.declared.command.Course.TheVariants.{Trace, Settle}
 use Rattle.propane_run.specs.declared.command.Outlook.TheVariants.{Replay, Drain, WhatIf, Multipath}
 
@@ -60,6 +60,7 @@ command_of topic.Settle rest = Some (After Settle)
 command_of topic.Promises rest = Some Promises
 command_of topic.WhatIf rest = Some (Under WhatIf)
 command_of topic.Multipath rest = Some (Under Multipath)
+command_of topic.Maps rest = Some Maps
 
 -- how many names a command reads
 abbrev pub name_count : Command → ℕ
@@ -77,6 +78,7 @@ name_count Audit = 6
 name_count (Help topic) = 0
 name_count Version = 0
 name_count Promises = 2
+name_count Maps = 1
 name_count (Under outlook) = 3
 name_count (After course) = 3
 

@@ -78,6 +78,8 @@ pub enum Command {
     Version,
     /// `promises TOPO POLICY`.
     Promises,
+    /// `maps CONFIG`.
+    Maps,
     /// A command on a topology, a policy and a scenario.
     Under(Outlook),
     /// A command on a topology, a policy and events.
@@ -111,6 +113,7 @@ impl Command {
             Topic::Promises => Some(Command::Promises),
             Topic::WhatIf => Some(Command::Under(Outlook::WhatIf)),
             Topic::Multipath => Some(Command::Under(Outlook::Multipath)),
+            Topic::Maps => Some(Command::Maps),
         }
     }
 
@@ -120,7 +123,7 @@ impl Command {
     {
         match *self {
             Command::Sample(_) | Command::Help(_) | Command::Version => 0,
-            Command::Migrate => 1,
+            Command::Migrate | Command::Maps => 1,
             Command::Compile
             | Command::Evidence
             | Command::Explain

@@ -12,7 +12,8 @@ use crate::command::{Command, Course, Outlook};
 use compile_jobs::{Answer, Part, answered_texts, explain_texts, sample_summary, written_texts};
 use help_texts::{help, version};
 use judging_jobs::{
-    audit_texts, check_map_texts, check_texts, lint_texts, migrate_text, route_map_texts,
+    audit_texts, check_map_texts, check_texts, config_maps_text, lint_texts, migrate_text,
+    route_map_texts,
 };
 use net_base::List;
 use report_jobs::{
@@ -112,6 +113,7 @@ pub fn job(alloc: Global, command: &Command, texts: &[List<u8>]) -> Result<Vec<u
         Command::Help(topic) => written(alloc, help(topic)),
         Command::Version => written(alloc, version()),
         Command::Promises => promises_texts(alloc, text(texts, 0), text(texts, 1)),
+        Command::Maps => config_maps_text(alloc, text(texts, 0)),
         Command::Under(outlook) => under(alloc, outlook, texts),
         Command::After(course) => after(alloc, course, texts),
     }

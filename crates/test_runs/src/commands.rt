@@ -176,4 +176,5 @@ pub(crate) const ROWS: [Row; 32] = [
         &[],
         Status::Done,
     ),
+    ("maps", &[Text::Config], &[], Status::Done),
 ];

@@ -103,4 +103,38 @@ list 2 permit 10.0.2.0/24
      ["propane-config 1\n", "propane-maps 2\n"],
      BAD_INPUT, "propane: config 1 version\n"),
     ("maps of another version", ["checkmap"], ["propane-config 2\n", "propane-maps 2\n"], BAD_INPUT, "propane: maps 1 version\n"),
+    ("the maps of a configuration", ["maps"], [TWO_ROUTERS_CONFIG], DONE, TWO_ROUTERS_MAPS),
+    ("the maps of a configuration that nobody compiled: tags and preferences of its own", ["maps"], ["""\
+propane-config 2
+class 1 10.0.1.0/24 10.0.2.0/24 le 28
+class 2 0.0.0.0/0 le 32
+router A asn 64512 id 10.255.0.1
+originate 1 10.0.1.0/24 tag 64512:0:7
+session B asn 64513
+import 2 tag 64513:0:9 set 64512:0:8 pref 300
+export 1 tag 64512:0:7
+peer P asn 1001
+export 1 tag 64512:0:7
+end
+"""], DONE, """\
+propane-maps 1
+list 1 permit 10.0.1.0/24
+list 1 permit 10.0.2.0/24 le 28
+list 2 deny 10.0.1.0/24
+list 2 deny 10.0.2.0/24 le 28
+list 2 permit 0.0.0.0/0 le 32
+router A asn 64512 id 10.255.0.1
+network 10.0.1.0/24 list 1 set 64512:0:7
+neighbor B asn 64513
+in 10 list 2 match 64513:0:9 set 64512:0:8 pref 300
+out 10 list 1 match 64512:0:7
+peer P asn 1001
+out 10 list 1 match 64512:0:7
+end
+"""),
+    ("the maps of no configuration", ["maps"], ["propane-config 2\n"], DONE, "propane-maps 1\n"),
+    ("a configuration of the first edition", ["maps"], ["propane-config 1\n"], BAD_INPUT, "propane: config 1 version\n"),
+    ("a block that isn't closed", ["maps"], ["propane-config 2\nrouter A asn 64512 id 10.255.0.1\n"], BAD_INPUT, "propane: config 6 unfinished\n"),
+    ("1,414 classes that overlap", ["maps"],
+     ["propane-config 2\n" + "".join(f"class {n} 0.0.0.0/0 le 32\n" for n in range(1, 1415))], REFUSED, "propane: refused 8 too-many-lines number 1000406\n"),
 ]

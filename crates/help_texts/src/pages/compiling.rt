@@ -88,6 +88,34 @@ example
   propane routemap topology.json policy.propane
 ";
 
+/// How `maps` is used.
+pub const MAPS: &str = "usage: propane maps CONFIG
+
+Writes a configuration as numbered entries over prefix lists, the way route maps
+say it. They make of every prefix and every route what the configuration makes
+of it. routemap does so with what it compiles; maps takes any configuration, as
+one between two policies. A text of more than 1,000,000 lines is refused.
+
+reads
+  CONFIG  a configuration text of the second edition
+
+writes
+  output        the maps text, a block for each router
+  error output  on status 1, 3 and 4 one line that says why
+
+status
+  0  the maps are written
+  1  the maps have too many lines
+  3  the input is too long, or no text of the second edition
+  4  the input cannot be read
+  5  the output, or the line, cannot be written whole
+  6  memory is refused; nothing is written
+
+example
+  cd examples/two-exits
+  propane maps compile.stdout
+";
+
 /// How `migrate` is used.
 pub const MIGRATE: &str = "usage: propane migrate CONFIG
 

@@ -27,6 +27,7 @@ commands
   promises   tell what a policy promises, to whom, and to whom not
   whatif     tell what one more dead link or router changes, from here
   multipath  tell where packets go if routers spread them over equal routes
+  maps       write any configuration as route maps over prefix lists
 
 propane help COMMAND writes how a command is used. Words that are no command
 end with status 2 and one line on the error output.
@@ -34,7 +35,7 @@ end with status 2 and one line on the error output.
 
 /// What is said of words that are no command: each command with the names of what it reads.
 pub const USAGE: &str =
-    "propane: usage: compile TOPO POLICY, evidence TOPO POLICY, check TOPO POLICY CONFIG EVIDENCE, explain TOPO POLICY, replay TOPO POLICY SCENARIO, trace TOPO POLICY EVENTS, sample N, migrate CONFIG, impact TOPO POLICY PREFIX, routemap TOPO POLICY, checkmap CONFIG MAPS, lint TOPO POLICY, audit TOPO POLICY CONFIG EVIDENCE SCENARIO TABLES, help [COMMAND], version, drain TOPO POLICY SCENARIO, settle TOPO POLICY EVENTS, promises TOPO POLICY, whatif TOPO POLICY SCENARIO, multipath TOPO POLICY SCENARIO\n";
+    "propane: usage: compile TOPO POLICY, evidence TOPO POLICY, check TOPO POLICY CONFIG EVIDENCE, explain TOPO POLICY, replay TOPO POLICY SCENARIO, trace TOPO POLICY EVENTS, sample N, migrate CONFIG, impact TOPO POLICY PREFIX, routemap TOPO POLICY, checkmap CONFIG MAPS, lint TOPO POLICY, audit TOPO POLICY CONFIG EVIDENCE SCENARIO TABLES, help [COMMAND], version, drain TOPO POLICY SCENARIO, settle TOPO POLICY EVENTS, promises TOPO POLICY, whatif TOPO POLICY SCENARIO, multipath TOPO POLICY SCENARIO, maps CONFIG\n";
 
 /// How `help` is used.
 pub const HELP: &str = "usage: propane help [COMMAND]
