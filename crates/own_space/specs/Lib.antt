@@ -1,0 +1,4 @@
+pub mod Spaces
+pub mod Covers
+pub mod Open
+pub mod Laws
