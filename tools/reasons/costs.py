@@ -28,7 +28,7 @@ UNKNOWN = "what it gives up isn't known: the program tells nothing of it"
 
 def promised_in(promises: str, number: int) -> dict[str, int]:
     """What is promised in the case of this number: the best rank of each claimed source while nothing fails."""
-    block = re.search(rf"^case {number} statement \d+\n(?:(?!case |uncarried |cases ).*\n)*", promises, re.MULTILINE)
+    block = re.search(rf"^case {number} statement \d+\n(?:(?!case |uncarried |open |cases ).*\n)*", promises, re.MULTILINE)
     found = re.findall(r"^source (?:router (\S+)|session (\S+) (\S+)) rank (\d+)$", block.group() if block else "", re.MULTILINE)
     return {router or via + TO + peer: int(rank) for router, via, peer, rank in found}
 

@@ -64,8 +64,11 @@ unclaimed  unclaimed router {router}
 unclaimed  unclaimed session {router} {peer}
 unclaimed  unclaimed peer {peer}
 transit    transit router {router}
+covered    covered
+unused     unused origin {origin}
 uncarried  uncarried {prefix^}
-cases      cases {cases#} unclaimed {unclaimed#} uncarried {uncarried#}
+open       open {pattern^} in {prefix} case {case#}
+cases      cases {cases#} unclaimed {unclaimed#} transit {transit#} covered {covered#} unused {unused#} uncarried {uncarried#} open {open#}
 """
 FINDINGS = """
 unused     unused group {group}
@@ -116,7 +119,7 @@ LINES = {
     "version": "propane  propane {version}\nkit  kit {kit}\n",
 }
 # The lines below which others stand, up to the next of their kind or the line that ends the report.
-ABOVE = {"promises": ("case", frozenset({"uncarried", "cases"})), "whatif": ("cut", frozenset({"cuts"})),
+ABOVE = {"promises": ("case", frozenset({"uncarried", "open", "cases"})), "whatif": ("cut", frozenset({"cuts"})),
          "impact": ("cut", frozenset({"cuts"}))}
 NONE_ABOVE: tuple[str, frozenset[str]] = ("", frozenset())
 # What the other commands write is no report: a configuration, evidence, maps or a page of help.

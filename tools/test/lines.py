@@ -7,6 +7,7 @@ from dataclasses import dataclass, field
 from typing import Any
 
 CASE, CUT_LINK, CUT_ROUTER = "case 2 statement 3\n", "cut link R1 P1 moves 2\n", "cut router R2 moves 0\n"
+COUNTED = "cases 1 unclaimed 0 transit 0 covered 0 unused 0 uncarried 0 open 0"  # the last line of promises
 NAMES = ("R1", "R2", "R3", "P1", "P2")  # routers and peers of the lines
 
 
@@ -62,8 +63,11 @@ ROWS = (
     Row("promises", "unclaimed session R1 P2", {"unclaimed": ["session R1 P2"]}, CASE),
     Row("promises", "unclaimed peer P1", {"unclaimed": ["peer P1"]}, CASE),
     Row("promises", "transit router R2", {"transit": ["R2"]}, CASE),
+    Row("promises", "covered", {"covered": [2]}, CASE),
+    Row("promises", "unused origin R3", {"unused": ["R3"]}, CASE),
     Row("promises", "uncarried 10.0.9.0/24", {"uncarried": ["10.0.9.0/24"]}, CASE),
-    Row("promises", "cases 1 unclaimed 0 uncarried 0", {"last": "cases 1 unclaimed 0 uncarried 0"}, CASE),
+    Row("promises", "open 10.0.9.0/24 le 32 in 10.0.9.0/24 case 2", {"open": [["10.0.9.0/24 le 32", "10.0.9.0/24", 2]]}, CASE),
+    Row("promises", COUNTED, {"last": COUNTED}, CASE),
     Row("cuts", "base router R1 rank 2"),
     Row("cuts", "base session R1 P1 none"),
     Row("cuts", "cut link R1 P1 moves 2", {"cut": ["link", "P1~R1", 2]}),

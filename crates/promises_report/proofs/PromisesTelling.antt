@@ -254,9 +254,9 @@ module _ (net : PlainNet) (rules : IsNet net) (s : PlainStatement) (d : PlainCas
         λ claimed. none_over r peer claimed.starts.0 (tops.none r (and_parts (is_router net r) (is_peer net peer) at.1).0 is) claimed.starts.1
     place_tells r (Some peer) at (Some n) is = node_tells r n (Some peer) at (tops.some r n is) (option_and_then (rank_at g) (step_at g n peer)) refl
 
-    top_there : (r : ℕ) → IsPlace net d.case r None → IsPassed net s d.case r → is_some (top r) ≡ true
+    top_there : (r : ℕ) → is_router net r ≡ true → IsPassed net s d.case r → is_some (top r) ≡ true
     top_there r at p = elim (cases_Option (top r)) [
-      | inl none ↦ (let n = stands r p in absurd (tops.none r (and_parts (is_router net r) (not (Origin r)) at).0 none n.0 n.1))
+      | inl none ↦ (let n = stands r p in absurd (tops.none r at none n.0 n.1))
       | inr some ↦ is_some_from (top r) some.0 some.1
     ]
 

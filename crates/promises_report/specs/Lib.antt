@@ -5,3 +5,4 @@ pub mod Laws
 pub mod Promises
 pub mod Texts
 pub mod Written
+pub mod Taken

@@ -1,6 +1,6 @@
 -- What is promised for a case, and that it is kept for every prefix of the case while nothing has failed.
 use Rattle.std.specs.Prelude.{◌≡◌, ◌↔◌, ℕ, Bool, IsTrue, List, length, Option, Some, None, IsSome}
-use Rattle.net_base.specs.Network.{PlainNet}
+use Rattle.net_base.specs.Network.{PlainNet, is_router}
 use Rattle.net_base.specs.Prefixes.{PlainPrefix}
 use Rattle.policy_base.specs.declared.case.Case.{Case}
 use Rattle.policy_base.specs.Policies.{PlainPolicy, PlainStatement}
@@ -26,7 +26,7 @@ IsPromised net s c r peer (Some n) = IsSourceIn net s c r peer × IsLeastRank ne
 
 pub record ArePromises (net : PlainNet) (s : PlainStatement) (c : Case) (a : Promises) : Type 0 where
   pub ranks : (r : ℕ) (peer : Option ℕ) → IsPlace net c r peer → IsPromised net s c r peer (a.rank r peer)
-  pub walks : (r : ℕ) → IsPlace net c r None → IsTrue (a.passes r) ↔ IsPassed net s c r
+  pub walks : (r : ℕ) → IsTrue (is_router net r) → IsTrue (a.passes r) ↔ IsPassed net s c r
 
 -- ---- by a prefix of the case
 

@@ -1,7 +1,7 @@
 -- The text of what a policy promises.
-use Rattle.std.specs.Prelude.{ℕ, ◌+◌, suc, Bool, false, ◌&&◌, is_none, List, [], ◌∷◌, ◌++◌, codes, length, Option, Some, None, if◌then◌else◌}
+use Rattle.std.specs.Prelude.{ℕ, ◌+◌, ◌-◌, suc, Bool, false, not, nat_lt, ◌&&◌, is_none, List, [], ◌∷◌, ◌++◌, codes, length, Option, Some, None, slice_index_or, if◌then◌else◌}
 use Rattle.std.specs.Fmt.{decimal}
-use Rattle.std.specs.List.{count_by, flat_map}
+use Rattle.std.specs.List.{count_by, flat_map, list_any}
 use Rattle.net_base.specs.Locations.{in_order, numbers_below}
 use Rattle.net_base.specs.Network.{PlainNet, is_peer}
 use Rattle.net_base.specs.Prefixes.{PlainPattern}
@@ -16,8 +16,13 @@ use Rattle.evidence_base.specs.Made.{patterns_of}
 use Rattle.text_parts.specs.Texts.{pattern_text, prefix_text}
 use Rattle.outcome_report.specs.Lines.{next_name, source_text}
 use Rattle.impact_report.specs.declared.sources.Source.{Source}
+use Rattle.own_space.specs.declared.open_case.OpenCase.{OpenCase}
+use Rattle.own_space.specs.declared.open_part.OpenPart.{OpenPart}
+use Rattle.own_space.specs.Covers.{covered_in}
+use Rattle.own_space.specs.Open.{open_parts}
 use Rattle.promises_report.specs.Promises.{Promises}
 use Rattle.promises_report.specs.Places.{places_of}
+use Rattle.promises_report.specs.declared.counts.Counts.{Counts}
 
 -- ---- what a case is
 
@@ -89,13 +94,52 @@ promises_lines net policy c a places =
     ++ flat_map (idle_line net policy c) (in_order net)
     ++ flat_map (transit_line net a) places
 
--- what a case is, and what is promised for it
-abbrev pub case_text : PlainNet → PlainPolicy → ℕ → Case → Promises → List ℕ
-case_text net policy number c a = case_lines net policy number c ++ promises_lines net policy c a (places_of net c)
+-- the mark of the statement with a number, from 1
+abbrev pub mark_at : List Bool → ℕ → Bool
+mark_at marks n = nat_lt 0 n && slice_index_or marks (n - 1) false
 
--- how many `unclaimed` lines there are
-abbrev pub unclaimed_count : PlainNet → PlainPolicy → Case → Promises → ℕ
-unclaimed_count net policy c a = count_by (is_unclaimed a) (places_of net c) + count_by (is_idle net policy c) (in_order net)
+-- an external case of which no prefix is left: each is originated, or governed by an earlier statement
+abbrev pub is_covered : PlainPolicy → Case → Bool
+is_covered policy c = c.external && mark_at (covered_in policy) c.statement
+
+-- nothing is promised to anybody where no prefix is left
+abbrev pub told_lines : PlainNet → PlainPolicy → Case → Promises → List Source → List ℕ
+told_lines net policy c a places = if is_covered policy c then codes "covered\n" else promises_lines net policy c a places
+
+-- an origin that no permitted walk goes over, so at which none ends
+abbrev pub is_unused : Case → Promises → ℕ → Bool
+is_unused c a r = holds c.origins r && not (a.passes r)
+
+unfoldable pub unused_line : PlainNet → Case → Promises → ℕ → List ℕ
+unused_line net c a r = if is_unused c a r then codes "unused" ++ codes " origin" ++ next_name net r ++ codes "\n" else []
+
+abbrev pub unused_lines : PlainNet → Case → Promises → List ℕ
+unused_lines net c a = flat_map (unused_line net c a) (numbers_below (length net.routers))
+
+-- what a case is, what is promised for it, and the origins that nobody uses
+abbrev pub case_text : PlainNet → PlainPolicy → ℕ → Case → Promises → List ℕ
+case_text net policy number c a = case_lines net policy number c ++ told_lines net policy c a (places_of net c) ++ unused_lines net c a
+
+-- how many lines of each kind a case has
+abbrev pub promises_counts : PlainNet → PlainPolicy → Case → Promises → List Source → Counts
+promises_counts net policy c a places = record {
+  unclaimed = count_by (is_unclaimed a) places + count_by (is_idle net policy c) (in_order net);
+  transit = count_by (is_transit a) places;
+  covered = 0;
+  unused = 0;
+}
+
+abbrev pub covered_counts : Counts
+covered_counts = record { unclaimed = 0; transit = 0; covered = 1; unused = 0 }
+
+abbrev pub told_counts : PlainNet → PlainPolicy → Case → Promises → List Source → Counts
+told_counts net policy c a places = if is_covered policy c then covered_counts else promises_counts net policy c a places
+
+abbrev pub case_counts : PlainNet → PlainPolicy → Case → Promises → Counts
+case_counts net policy c a = record (told_counts net policy c a (places_of net c)) { unused = count_by (is_unused c a) (numbers_below (length net.routers)) }
+
+abbrev pub sum_of : Counts → Counts → Counts
+sum_of a b = record { unclaimed = a.unclaimed + b.unclaimed; transit = a.transit + b.transit; covered = a.covered + b.covered; unused = a.unused + b.unused }
 
 -- ---- the cases, with their promises, from a number on
 
@@ -104,10 +148,26 @@ cases_text net policy k [] xs = []
 cases_text net policy k (c ∷ cs) [] = []
 cases_text net policy k (c ∷ cs) (a ∷ xs) = case_text net policy k c a ++ cases_text net policy (suc k) cs xs
 
-abbrev pub unclaimed_in : PlainNet → PlainPolicy → List Case → List Promises → ℕ
-unclaimed_in net policy [] xs = 0
-unclaimed_in net policy (c ∷ cs) [] = 0
-unclaimed_in net policy (c ∷ cs) (a ∷ xs) = unclaimed_count net policy c a + unclaimed_in net policy cs xs
+abbrev pub no_counts : Counts
+no_counts = record { unclaimed = 0; transit = 0; covered = 0; unused = 0 }
+
+abbrev pub counts_in : PlainNet → PlainPolicy → List Case → List Promises → Counts
+counts_in net policy [] xs = no_counts
+counts_in net policy (c ∷ cs) [] = no_counts
+counts_in net policy (c ∷ cs) (a ∷ xs) = sum_of (case_counts net policy c a) (counts_in net policy cs xs)
+
+-- some router takes what peers announce: a permitted walk goes over it, and ends at a peer
+abbrev pub takes : PlainNet → Case → Promises → Bool
+takes net c a = c.external && list_any a.passes (numbers_below (length net.routers))
+
+abbrev pub taking_case : PlainNet → ℕ → Case → Promises → List OpenCase
+taking_case net k c a = if takes net c a then record { number = k; statement = c.statement } ∷ [] else []
+
+-- the cases in which some router does, from a number on
+abbrev pub taking_cases : PlainNet → ℕ → List Case → List Promises → List OpenCase
+taking_cases net k [] xs = []
+taking_cases net k (c ∷ cs) [] = []
+taking_cases net k (c ∷ cs) (a ∷ xs) = taking_case net k c a ++ taking_cases net (suc k) cs xs
 
 -- ---- what is originated and that no statement governs
 
@@ -117,15 +177,38 @@ is_uncarried policy o = is_none (governing policy o.prefix)
 unfoldable pub uncarried_line : PlainPolicy → Origin → List ℕ
 uncarried_line policy o = if is_uncarried policy o then codes "uncarried " ++ prefix_text o.prefix ++ codes "\n" else []
 
+-- ---- what peers are believed in inside the network's own space
+
+unfoldable pub open_line : OpenPart → List ℕ
+open_line part = codes "open " ++ pattern_text part.pattern ++ codes " in " ++ prefix_text part.within ++ codes " case " ++ decimal part.number ++ codes "\n"
+
 -- ---- the whole
 
-unfoldable pub count_line : ℕ → ℕ → ℕ → List ℕ
-count_line cases unclaimed uncarried = codes "cases " ++ decimal cases ++ codes " unclaimed " ++ decimal unclaimed ++ codes " uncarried " ++ decimal uncarried ++ codes "\n"
+-- how many lines of each kind the cases have
+unfoldable pub kinds_text : Counts → List ℕ
+kinds_text counts =
+    codes " unclaimed " ++ decimal counts.unclaimed
+    ++ codes " transit " ++ decimal counts.transit
+    ++ codes " covered " ++ decimal counts.covered
+    ++ codes " unused " ++ decimal counts.unused
 
--- Each case in order; the originated prefixes that no statement governs, in order of the text; and how many cases there are, and lines of
--- these two kinds.
+-- and how many lines stand after them
+unfoldable pub places_text : ℕ → ℕ → List ℕ
+places_text uncarried parts = codes " uncarried " ++ decimal uncarried ++ codes " open " ++ decimal parts ++ codes "\n"
+
+unfoldable pub count_line : ℕ → Counts → ℕ → ℕ → List ℕ
+count_line cases counts uncarried parts = codes "cases " ++ decimal cases ++ kinds_text counts ++ places_text uncarried parts
+
+-- what is said after the cases, where these are the parts that peers are believed in
+abbrev pub last_lines : PlainPolicy → ℕ → Counts → List OpenPart → List ℕ
+last_lines policy cases counts parts =
+    flat_map (uncarried_line policy) policy.origins
+    ++ flat_map open_line parts
+    ++ count_line cases counts (count_by (is_uncarried policy) policy.origins) (length parts)
+
+-- Each case in order; the originated prefixes that no statement governs, in order of the text; what peers are believed in inside the
+-- network's own space; and how many cases there are, and lines of each kind that may surprise.
 abbrev pub promises_text : PlainNet → PlainPolicy → List Case → List Promises → List ℕ
 promises_text net policy cases told =
     cases_text net policy 1 cases told
-    ++ flat_map (uncarried_line policy) policy.origins
-    ++ count_line (length cases) (unclaimed_in net policy cases told) (count_by (is_uncarried policy) policy.origins)
+    ++ last_lines policy (length cases) (counts_in net policy cases told) (open_parts policy (taking_cases net 1 cases told))

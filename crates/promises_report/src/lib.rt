@@ -6,6 +6,7 @@
 #![tactic(auto)]
 
 mod case;
+mod counts;
 mod lines;
 mod places;
 mod promises;
@@ -13,8 +14,11 @@ mod telling;
 mod text;
 mod told;
 
+pub use counts::Counts;
 pub use places::{places_of, sessions_of};
-pub use promises::{claimed_sources_have_ranks, promises_are_kept, tops_tell_promises};
+pub use promises::{
+    claimed_sources_have_ranks, parts_are_what_is_taken, promises_are_kept, tops_tell_promises,
+};
 pub use telling::told_of;
 pub use text::promises_text;
 pub use told::Told;

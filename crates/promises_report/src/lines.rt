@@ -1,4 +1,5 @@
 //! The lines of promises. Each `push_` function adds a text to the end of another.
+ghost use Rattle.std.specs.Fmt.{decimal};
 ghost use Rattle.std.specs.Prelude.{◌≡◌, ◌++◌, OnOk};
 ghost use Rattle.policy_base.specs.Policies.{policy_of, statement_at as plain_statement_at};
 ghost use Rattle.promises_report.specs.Telling.{promises_in};
@@ -11,22 +12,29 @@ ghost use Rattle.promises_report.specs.Texts.{
   is_transit as is_transit_in,
   is_uncarried as is_uncarried_by,
   is_unclaimed as is_unclaimed_in,
+  is_unused as is_unused_in,
+  kinds_text,
   names as names_in,
+  open_line,
   origin_line,
   pattern_line,
   peer_line,
+  places_text,
   ranked_line,
   source_line,
   transit_line,
   uncarried_line,
   unclaimed_line,
+  unused_line,
 };
 
 use crate::Told;
+use crate::counts::Counts;
 use impact_report::Source;
 use input_output::NoMemory;
 use net_base::{Loc, Net, Pattern};
 use outcome_report::{push_next, push_source};
+use own_space::OpenPart;
 use policy_base::{Case, FromSet, Origin, Policy, governing, statement_at};
 use text_parts::{push_bytes, push_number, push_pattern, push_prefix};
 
@@ -182,7 +190,7 @@ pub fn push_idle(
 }
 
 /// Whether a source is a router that isn't claimed and that a permitted walk passes.
-fn is_transit(told: &Told<'_>, source: &Source) -> bool
+pub fn is_transit(told: &Told<'_>, source: &Source) -> bool
     ensures { result ≡ is_transit_in (promises_in told.now) source.now }
 {
     source.peer.is_none() && is_unclaimed(told, source) && told.passes(source.router)
@@ -226,21 +234,88 @@ pub fn push_uncarried(text: &mut Vec<u8>, policy: &Policy, origin: &Origin) -> R
     push_bytes(text, b"\n")
 }
 
-/// Adds the line that counts cases, and lines of two kinds.
+/// Whether a router is an origin at which no path ends.
+pub fn is_unused(case: &Case, told: &Told<'_>, router: Loc) -> bool
+    ensures { result ≡ is_unused_in case.now (promises_in told.now) router }
+{
+    case.origins.holds(router) && !told.passes(router)
+}
+
+/// Adds the line of an origin at which no path ends.
+#[tactic(auto, unfolding(crate::specs::Texts::unused_line))]
+pub fn push_unused(
+    text: &mut Vec<u8>,
+    net: &Net,
+    case: &Case,
+    told: &Told<'_>,
+    router: Loc,
+) -> Result<(), NoMemory>
+    ensures { OnOk result (text.new.items ≡ text.old.items ++ unused_line net.now case.now (promises_in told.now) router) }
+{
+    if !is_unused(case, told, router) {
+        return Ok(());
+    }
+    push_bytes(text, b"unused")?;
+    push_bytes(text, b" origin")?;
+    push_next(text, net, router)?;
+    push_bytes(text, b"\n")
+}
+
+/// Adds the line of a part of the network's own space that peers are believed in.
+#[tactic(auto, unfolding(crate::specs::Texts::open_line))]
+pub fn push_open(text: &mut Vec<u8>, part: OpenPart) -> Result<(), NoMemory>
+    ensures { OnOk result (text.new.items ≡ text.old.items ++ open_line part) }
+{
+    push_bytes(text, b"open ")?;
+    push_pattern(text, part.pattern)?;
+    push_bytes(text, b" in ")?;
+    push_prefix(text, part.within)?;
+    push_bytes(text, b" case ")?;
+    push_number(text, part.number as u64)?;
+    push_bytes(text, b"\n")
+}
+
+/// Adds a word and a number.
+fn push_count(text: &mut Vec<u8>, word: &[u8], count: u64) -> Result<(), NoMemory>
+    ensures { OnOk result (text.new.items ≡ text.old.items ++ word.now ++ decimal count) }
+{
+    push_bytes(text, word)?;
+    push_number(text, count)
+}
+
+/// Adds how many lines of each kind the cases have.
+#[tactic(auto, unfolding(crate::specs::Texts::kinds_text))]
+fn push_kinds(text: &mut Vec<u8>, counts: Counts) -> Result<(), NoMemory>
+    ensures { OnOk result (text.new.items ≡ text.old.items ++ kinds_text counts) }
+{
+    push_count(text, b" unclaimed ", counts.unclaimed)?;
+    push_count(text, b" transit ", counts.transit)?;
+    push_count(text, b" covered ", counts.covered)?;
+    push_count(text, b" unused ", counts.unused)
+}
+
+/// Adds how many lines stand after the cases.
+#[tactic(auto, unfolding(crate::specs::Texts::places_text))]
+fn push_places(text: &mut Vec<u8>, uncarried: usize, parts: usize) -> Result<(), NoMemory>
+    ensures { OnOk result (text.new.items ≡ text.old.items ++ places_text uncarried parts) }
+{
+    push_count(text, b" uncarried ", uncarried as u64)?;
+    push_count(text, b" open ", parts as u64)?;
+    push_bytes(text, b"\n")
+}
+
+/// Adds the line that counts cases, and lines of each kind.
 #[tactic(auto, unfolding(crate::specs::Texts::count_line))]
 pub fn push_counts(
     text: &mut Vec<u8>,
     cases: usize,
-    unclaimed: u64,
+    counts: Counts,
     uncarried: usize,
+    parts: usize,
 ) -> Result<(), NoMemory>
-    ensures { OnOk result (text.new.items ≡ text.old.items ++ count_line cases unclaimed uncarried) }
+    ensures { OnOk result (text.new.items ≡ text.old.items ++ count_line cases counts uncarried parts) }
 {
-    push_bytes(text, b"cases ")?;
-    push_number(text, cases as u64)?;
-    push_bytes(text, b" unclaimed ")?;
-    push_number(text, unclaimed)?;
-    push_bytes(text, b" uncarried ")?;
-    push_number(text, uncarried as u64)?;
-    push_bytes(text, b"\n")
+    push_count(text, b"cases ", cases as u64)?;
+    push_kinds(text, counts)?;
+    push_places(text, uncarried, parts)
 }

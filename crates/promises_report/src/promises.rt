@@ -1,5 +1,6 @@
 //! What a policy promises for each of its cases while nothing has failed: laws without code.
 ghost use Rattle.promises_report.specs.Laws.{ClaimedSourcesHaveRanks, PromisesAreKept, TopsTellPromises};
+ghost use Rattle.promises_report.specs.Taken.{PartsAreWhatIsTaken};
 
 /// Where the evidence passes, the node with the greatest number at a router tells what is promised for the router and for its
 /// sessions, and permitted walks pass exactly the routers at which a node stands.
@@ -18,4 +19,10 @@ pub fn promises_are_kept()
 /// the rules of numbers give an allowed path of no worse a rank.
 pub fn claimed_sources_have_ranks()
     ensures { ClaimedSourcesHaveRanks }
+{}
+
+/// Of a prefix inside an originated one that isn't originated itself some part that is told tells exactly where the policy lets some router
+/// take it from a peer.
+pub fn parts_are_what_is_taken()
+    ensures { PartsAreWhatIsTaken }
 {}

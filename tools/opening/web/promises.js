@@ -23,7 +23,7 @@ function rankChips(sources) {
 /** Cases of one statement of which the same is promised stand together. */
 const alike = (each) => {
   const ranks = [...each.routers, ...each.sessions].map(({ rank }) => rank).sort();
-  return [each.statement, each.origins[0] === "peers", ranks, each.unclaimed.length, each.transit.length].join("|");
+  return [each.statement, each.origins[0] === "peers", ranks, each.unclaimed.length, each.transit.length, each.isCovered, each.unused.length].join("|");
 };
 
 function groupShown(group, prefixOf) {
@@ -35,7 +35,9 @@ function groupShown(group, prefixOf) {
       el("b", {}, some(patterns, 2)), el("small", {}, `statement ${each.statement}, from ${origins}`),
       el("span", { class: "chips" }, rankChips([...each.routers, ...each.sessions]),
         each.unclaimed.length ? chip("warn", `${each.unclaimed.length} unclaimed`, { title: each.unclaimed.join(", ") }) : null,
-        each.transit.length ? chip("transit", `${each.transit.length} transit`, { title: each.transit.join(", ") }) : null)),
+        each.transit.length ? chip("transit", `${each.transit.length} transit`, { title: each.transit.join(", ") }) : null,
+        each.isCovered ? chip("warn", "covered", { title: "no prefix of it is left" }) : null,
+        each.unused.length ? chip("warn", `${each.unused.length} unused`, { title: each.unused.join(", ") }) : null)),
     group.length > 1 ? el("details", { class: "promise-more" }, el("summary", {}, `${group.length} cases alike`),
       el("div", {}, group.slice(0, MOST_LISTED).map((one) => button(prefixOf.get(one.number), () => go(one))))) : null,
   ];
@@ -43,6 +45,10 @@ function groupShown(group, prefixOf) {
 
 const uncarriedShown = (list) => el("div", { class: "say lint" }, el("p", { class: "line" }, `uncarried: ${list.join(", ")}`),
   el("p", {}, "Originated, and governed by no statement: no router but the origins has a route."));
+
+const openShown = (list) => el("div", { class: "say lint" },
+  list.map(({ pattern, prefix, number }) => el("p", { class: "line" }, `open ${pattern} in ${prefix} case ${number}`)),
+  el("p", {}, "A peer that announces one of these is believed: packets for the originated prefix go to it."));
 
 let shown = null;
 
@@ -53,6 +59,7 @@ function showPromises() {
   const every = prefixes(), prefixOf = new Map(every.map((one) => [one.number, one.prefix]).reverse());
   put(by("promises"), shown ? [
     shown.uncarried.length ? uncarriedShown(shown.uncarried) : null,
+    shown.open.length ? openShown(shown.open) : null,
     grouped(shown.cases, alike).map((group) => groupShown(group, prefixOf))]
     : el("div", { class: "say" }, "Nothing is promised while the policy isn't accepted."));
   const options = [...new Map(every.map((each) => [each.prefix, each])).values()].slice(0, MOST_LISTED);

@@ -32,11 +32,18 @@ export function reportOf(text) {
 }
 
 const emptyCase = (number, statement) =>
-  ({ number, statement, prefixes: [], origins: [], routers: [], sessions: [], unclaimed: [], transit: [] });
+  ({ number, statement, prefixes: [], origins: [], routers: [], sessions: [], unclaimed: [], transit: [], unused: [],
+    isCovered: false });
 
-/** What `promises` says: its cases, what no statement governs, and its last line. */
+/** A pattern inside an originated prefix that peers are believed in, and the case. */
+function openOf(line) {
+  const [pattern, rest] = line.slice(5).split(" in "), [prefix, , number] = rest.split(" ");
+  return { pattern, prefix, number: Number(number) };
+}
+
+/** What `promises` says: its cases, what no statement governs, what peers are believed in inside the own space, and its last line. */
 export function promisesOf(text) {
-  const cases = [], uncarried = [];
+  const cases = [], uncarried = [], open = [];
   let last = "";
   for (const line of text.split("\n")) {
     const words = line.split(" "), now = cases.at(-1);
@@ -47,10 +54,13 @@ export function promisesOf(text) {
     else if (words[0] === "source") now.sessions.push({ router: words[2], peer: words[3], rank: Number(words[5]) || 0 });
     else if (words[0] === "unclaimed") now.unclaimed.push(line.slice(10));
     else if (words[0] === "transit") now.transit.push(words[2]);
+    else if (words[0] === "covered") now.isCovered = true;
+    else if (words[0] === "unused") now.unused.push(words[2]);
     else if (words[0] === "uncarried") uncarried.push(words[1]);
+    else if (words[0] === "open") open.push(openOf(line));
     else if (words[0] === "cases") last = line;
   }
-  return { cases, uncarried, last };
+  return { cases, uncarried, open, last };
 }
 
 /** A link or a router that is cut: what it is called, how many others move, and whose best rank changes. */
