@@ -24,7 +24,7 @@ from .network import Network
 from .parts import Accepted, Part, Refused, Repair, Repairs, Together, lines_of, records_of
 from .program import Program, Progress, TimeUp
 from .refusals import Refusal
-from .repairs import Setting
+from .setting import Maker, Sent, Setting
 
 TRIES = 50
 SECONDS = 300  # or those of the variable WHY_SECONDS
@@ -32,6 +32,7 @@ FOR_REPAIRS, FOR_COSTS = 0.7, 0.3  # the parts of the time that are kept for rep
 NO_TIME = "what it gives up isn't known: the time is up"
 RECORDS = "--records"
 Kept = tuple[str, Statement]  # a repair that compiles: what was done, and the statement
+Priced = tuple[costs.Price, Repair]
 Walk = tuple[str, ...]
 
 
@@ -64,7 +65,7 @@ def refused_as(program: Program, setting: Setting, statement: Statement) -> Refu
 def candidates(setting: Setting, kept: Iterable[str], refused: Callable[[Statement], Refusal]) -> Iterator[Kept]:
     """What the makers yield, in turns, each statement once. `kept` has the texts of those that compiled meanwhile."""
     seen = {setting.statement.spelled()}
-    waiting: list[tuple[repairs.Maker, repairs.Refused]] = [(make(setting), None) for make in repairs.MAKERS]
+    waiting: list[tuple[Maker, Sent]] = [(make(setting), None) for make in repairs.MAKERS]
     while waiting:
         maker, sent = waiting.pop(0)
         try:
@@ -142,29 +143,33 @@ def why_of(case: RefusedCase) -> Refused:
     return Refused(statement.number, statement.line, statement.spelled(), refusal.text, told, words.told(refusal, ways), picture, legend)
 
 
-def priced(case: RefusedCase, kept: Iterable[Kept]) -> list[Repair]:
-    """The repairs by what was done, those first that give up least; each with what it gives up."""
+def priced(case: RefusedCase, kept: Iterable[Kept]) -> tuple[list[Repair], int]:
+    """The repairs by what was done, those first that give up least; each with what it gives up. And how many poor ones are left out,
+    which are all told where there are no others."""
     program, number = case.program, case.statement.number
     try:
         given_up = costs.given_up(program, case.cut, case.net, case.case, case.statement)
     except TimeUp:
         given_up = None
-    groups: dict[str, list[tuple[tuple[int, ...], Repair]]] = {}
+    found: list[Priced] = []
     for habit, changed in kept:
         program.progress.say(f"statement {number}, what is given up: {changed.spelled()}")
         try:
-            much, lines = given_up(changed) if given_up else ((), [NO_TIME])
+            price = given_up(changed) if given_up else costs.Price((), [NO_TIME])
         except TimeUp:
-            much, lines = (), [NO_TIME]
-        groups.setdefault(habit, []).append((much, Repair(habit, changed.spelled(), lines)))
-    for found in groups.values():
-        found.sort(key=by_cost)
-    return [repair for found in sorted(groups.values(), key=lambda found: by_cost(found[0])) for _, repair in found]
+            price = costs.Price((), [NO_TIME])
+        found.append((price, Repair(habit, changed.spelled(), price.lines)))
+    told = [each for each in found if not each[0].is_poor] or found
+    groups: dict[str, list[Priced]] = {}
+    for each in sorted(told, key=by_cost):
+        groups.setdefault(each[1].habit, []).append(each)
+    return [repair for some in groups.values() for _, repair in some], len(found) - len(told)
 
 
-def by_cost(priced_one: tuple[tuple[int, ...], Repair]) -> tuple[bool, tuple[int, ...]]:
+def by_cost(priced_one: Priced) -> tuple[bool, tuple[int, ...]]:
     """The order of repairs: those last of which it isn't known what they give up."""
-    return not priced_one[0], priced_one[0]
+    much = priced_one[0].much
+    return not much, much
 
 
 def repairs_of(case: RefusedCase, budget: int) -> Repairs:
@@ -172,7 +177,8 @@ def repairs_of(case: RefusedCase, budget: int) -> Repairs:
     setting = Setting(case.cut, case.net, case.statement, frozenset(case.case.origins), case.is_single, case.refusal)
     kept, count = tried(case.program, setting, budget)
     is_late = case.program.part_left() < FOR_COSTS
-    return Repairs(case.statement.number, count, is_late, None if case.is_single else case.case.number, priced(case, kept))
+    found, left_out = priced(case, kept)
+    return Repairs(case.statement.number, count, is_late, None if case.is_single else case.case.number, found, left_out)
 
 
 def refused_cases(program: Program, text: bytes) -> list[RefusedCase]:

@@ -1,18 +1,21 @@
-"""What a repair gives up, as far as the program tells it.
+"""What a repair gives up and what it newly allows, as far as the program tells it.
 
 `given_up` alone is called from outside. It asks `promises` for the best rank of each claimed source, `replay` for the path that each
-then has and which rank that path had in the statement as it was, and `impact` for what single cuts take away.
+then has and which rank that path had in the statement as it was, `impact` for what single cuts take away, and `lint` whether a path
+that was forbidden is allowed.
 """
 from __future__ import annotations
 
 import re
 from collections.abc import Callable, Iterable, Mapping, Sequence
+from dataclasses import dataclass
 from typing import Optional
 
 from texts.cases import Case
-from texts.policy import Policy, Statement
+from texts.policy import BOTH, RANKED, Call, Expression, Joined, Not, Policy, Statement, joined
 
 from .cases import TO, Ranks, examples
+from .expressions import flat
 from .network import Network, Walk
 from .program import Program
 from .words import listed, shown
@@ -22,8 +25,25 @@ MOST_PATHS = 400  # paths whose ranks are asked at once
 TRIED_PATHS = (1, 4, 40)  # paths of a source, one after another
 NOT_ALLOWED, NO_PATH = 0, None
 Cuts = dict[str, list[str]]  # with whom each leaves without a path
-GivenUp = Callable[[Statement], tuple[tuple[int, ...], list[str]]]  # how much a repaired statement gives up, and in lines
 UNKNOWN = "what it gives up isn't known: the program tells nothing of it"
+ANY = Call("any")
+ALLOWS_NOTHING = "newly allowed: nothing that was forbidden"
+NEWLY_UNKNOWN = "newly allowed: that isn't known"
+
+
+@dataclass(frozen=True)
+class Price:
+    """What a repaired statement gives up: how much, for an order (nothing where that isn't known), and in lines.
+
+    It is poor where it gives rank 1 to nobody, or no path to a source that had one.
+    """
+
+    much: tuple[int, ...]
+    lines: list[str]
+    is_poor: bool = False
+
+
+GivenUp = Callable[[Statement], Price]
 
 
 def promised_in(promises: str, number: int) -> dict[str, int]:
@@ -76,6 +96,15 @@ def asked_sources(policy: Policy, network: Network, case: Case, statement: State
     return routers + [router + TO + peer for router, peer in sessions]
 
 
+def opens(before: Expression, after: Expression) -> bool:
+    """Whether a repair lets any path do where the statement didn't."""
+    return ends_with_any(after) and not ends_with_any(before)
+
+
+def ends_with_any(expression: Expression) -> bool:
+    return isinstance(expression, Joined) and expression.binds == RANKED and expression.parts[-1] == ANY
+
+
 class Asked:
     """What a statement as it was asks for in a case: the best rank of a path from each source, as far as that is known."""
 
@@ -83,11 +112,13 @@ class Asked:
         self.program, self.policy, self.case, self.statement = program, policy, case, statement
         self.ranks = Ranks(program, policy, network, case, statement.expression)
         self.known: dict[Walk, set[int]] = {}  # the ranks of paths that were asked
-        sources = asked_sources(policy, network, case, statement)
+        self.sources = sources = asked_sources(policy, network, case, statement)
         walks = self.ranks.best(sources)
         named = statement.sources is not None and "any" not in statement.sources
         self.asked = [source for source in sources if named or walks.get(source, True)]
         self.best = self.best_of(network, walks)
+        most = max(1, min(TRIED_PATHS[-1], MOST_PATHS // max(1, len(sources))))
+        self.tried = {source: network.paths(source.split(TO)[::-1], case.origins, most) for source in sources[:MOST_PATHS]}
 
     def best_of(self, network: Network, walks: Mapping[str, int | None]) -> dict[str, int]:
         """A walk may visit a router twice and a path not. So paths are tried, until one has the best rank of a walk or all were tried."""
@@ -120,30 +151,70 @@ class Asked:
                 return promised, cuts_in(impact), paths_in(self.program.replay(text, prefix))
         return None
 
-    def given_up(self, after: Statement) -> tuple[tuple[int, ...], list[str]]:
-        """What a repaired statement gives up: how much, for an order, and in lines."""
+    def newly(self, after: Statement) -> tuple[list[Walk], str]:
+        """Paths of the sources that a repaired statement allows and this one forbids, as far as they are found; and the line that says so."""
+        if after.expression == self.statement.expression:
+            return [], ALLOWS_NOTHING
+        more = joined(BOTH, flat(after.expression), Not(flat(self.statement.expression)))
+        ranks = Ranks(self.program, self.policy, self.ranks.network, self.case, more)
+        said = ranks.within([ANY])
+        if not said:
+            return [], NEWLY_UNKNOWN
+        if said == [set()]:
+            return [], ALLOWS_NOTHING
+        asked = ranks.of([path for paths, _ in self.tried.values() for path in paths])
+        if not asked:
+            return [], NEWLY_UNKNOWN
+        found = [path for path in asked if asked[path]]
+        if found:
+            return found, f"newly allowed: {'; '.join(map(shown, found[:2]))}{f'; and {len(found) - 2} paths more' if len(found) > 2 else ''}"
+        are_all = len(self.tried) == len(self.sources) and all(whole for _, whole in self.tried.values())
+        return [], ALLOWS_NOTHING if are_all else f"newly allowed: none of the {len(asked)} paths that were tried; others may be"
+
+    def given_up(self, after: Statement) -> Price:
+        """What a repaired statement gives up."""
         outcome = self.outcome(self.policy.alone(after))
         if not outcome:
-            return (), [UNKNOWN]
+            return Price((), [UNKNOWN])
         base, (count, cuts), paths = outcome
         known = self.ranks_of(paths.values())
         lines = [f"promised rank {rank}: {named(sources)}" for rank, sources in groups_of(base)]
         unpromised = [source for source in self.asked if source not in base]
-        if unpromised:
-            lines.append(f"promised nothing: {named(unpromised)}")
+        free = set(self.sources) - set(asked_sources(self.policy, self.ranks.network, self.case, after))
+        free = {source for source in free if TO not in source}
+        held = [source for source in unpromised if source not in free]
+        if held:
+            lines.append(f"promised nothing: {named(held)}")
+        if free:
+            lines.append(f"no longer sources, free to use what they carry: {named(source for source in self.sources if source in free)}")
+        newly, said = self.newly(after)
+        lines.append(said)
         lost: dict[tuple[int, Optional[int]], list[str]] = {}
         for source, best in self.best.items():
             path = paths.get(source)
             got = min(known[path], default=NOT_ALLOWED) if path in known else NO_PATH if path is None else best
             if got != best and (source in base or TO not in source):
                 lost.setdefault((best, got), []).append(source)
+        got_one = [source for source in self.sources if source not in self.best and not known.get(paths.get(source, ()), {0})]
+        if got_one:
+            lines.append(f"no path as written, now has one: {listed([f'{source} by {shown(paths[source])}' for source in got_one[:2]])}"
+                         f"{f', and {len(got_one) - 2} more' if len(got_one) > 2 else ''}")
         for change, sources in sorted(lost.items(), key=str):
             lines.append(lost_line(*change, sources, paths))
         if cuts:
             some = [f"{cut} for {named(sources)}" for cut, sources in list(cuts.items())[:2]]
             lines.append(f"no path after {len(cuts)} of {count} single cuts: {'; '.join(some)}{'; ..' if len(cuts) > 2 else ''}")
         worse = sum(len(sources) * (1 if got else 2) for (_, got), sources in lost.items())
-        return (len(unpromised) + worse, len(unpromised), len(cuts)), lines
+        freed = len({path[0] if path[0] not in self.ranks.network.ends else path[:2] for path in newly})
+        much = (int(bool(newly) and opens(self.statement.expression, after.expression)), len(unpromised) + worse + freed, len(unpromised),
+                len(newly), len(cuts))
+        return Price(much, lines, self.is_poor(base, lost))
+
+    def is_poor(self, base: Mapping[str, int], lost: Mapping[tuple[int, Optional[int]], Sequence[str]]) -> bool:
+        """Whether rank 1 is given to nobody, or a source that had a path has none."""
+        first = [source for source, rank in self.best.items() if rank == 1]
+        spared = [source for source in first if not any(source in sources for (best, _), sources in lost.items() if best == 1)]
+        return any(got is NO_PATH for _, got in lost) or bool(first) and (1 not in base.values() or not spared)
 
 
 def lost_line(best: int, got: int | None, sources: Sequence[str], paths: Mapping[str, Walk]) -> str:

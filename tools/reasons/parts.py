@@ -47,7 +47,7 @@ class Refused:
         yield from (f"The program says: {self.refusal}", f"{self.case}.", "")
         yield from self.says
         if self.picture:
-            yield from ("", "The nodes, drawn from the origin on; the rank of each walk, and those of longer walks that end so:", "")
+            yield from ("", "These ways, drawn from the origin on. Each has its rank, and the ranks of longer ways that end with it:", "")
             yield from (f"    {line}" for line in self.picture)
             yield ""
             yield from (f"    {line}" for line in self.legend)
@@ -71,16 +71,18 @@ class Repairs:
     is_late: bool
     case: int | None
     repairs: list[Repair]
+    left_out: int  # repairs that compile and are worth little
 
     def head(self) -> str:
         """How many were tried, and how many compile."""
-        compile_ = f"{len(self.repairs)} compile; those first that give up least while nothing fails" if self.repairs else "none compiles"
+        compile_ = f"{len(self.repairs) + self.left_out} compile; those first that give up least" if self.repairs else "none compiles"
         return f"Repairs: {self.tried} tried, {compile_}.{' The time is up.' if self.is_late else ''}"
 
     def notes(self) -> list[str]:
         """What is to be known of them."""
         alone = [f"What is given up is told for case {self.case} alone."] if self.repairs and self.case else []
-        return ["docs/COOKBOOK.md has the habits, and more forms.", *alone]
+        poor = [f"Left out, as rank 1 goes to nobody or a source loses its path: {self.left_out}."] if self.left_out else []
+        return [*poor, "docs/COOKBOOK.md has the habits, and more forms.", *alone]
 
     def lines(self) -> Iterator[str]:
         yield from ("", self.head(), *self.notes())

@@ -5,75 +5,16 @@ statement. What it is sent back gives the refusal of that statement, or is none 
 """
 from __future__ import annotations
 
-from collections.abc import Callable, Collection, Generator, Iterable, Iterator
-from dataclasses import dataclass
-from typing import Optional
+from collections.abc import Collection, Iterable, Iterator
 
-from texts.policy import BOTH, EITHER, RANKED, Call, Expression, Joined, Names, Not, Policy, Statement, joined
+from texts.policy import BOTH, EITHER, RANKED, Call, Expression, Joined, Not, Statement, joined
 
+from .alternatives import others_away, others_unused, regions_first, sets_carry_nothing
 from .expressions import Put, calls, flat, ranks, sites
-from .network import Network
-from .refusals import BETWEEN, Refusal
-
-# What a maker is sent back: nothing where the statement compiles, else what gives its refusal.
-Refused = Optional[Callable[[], Refusal]]
-Maker = Generator[tuple[str, Statement], Refused, None]
-ANY = Call("any")
-MOST_BESIDE = 4  # places beside a waypoint or a link that are tried
-MOST_NAMES = 64  # names that a printed `from` may have
-MOST_STEPS = 8  # sources that are left out one after another
-MOST_MORE = 3  # routers that are kept from carrying one after another
-KEPT_AWAY = "say what to keep away from, not what to pass (habit 2)"
-CLOSED = "close the way round (habit 3)"
-ONE_WAY = "allow one way from the near side to the far side (habit 3)"
-NO_WAY_BACK = "forbid the way back (habit 3)"
-FAR_END = "put the far end first (habit 5)"
-UNRANKED_REST = "rank nothing among the rest (habits 1 and 5)"
-PATHS_NOT_SOURCES = "rank where paths go, not who asks (habit 4)"
-CARRY_NOTHING = "forbid what is carried for others, and not what begins or ends there (habit 2)"
-FEWER = "promise it to fewer sources (habit 6)"
-NO_NAMES = "name no sources, so that those without a path are passed over (habit 6)"
-ONE_SOURCE = "fix the paths of one source (habit 4)"
-FOLLOWED = "let each source follow the path that it carries for another (habit 4)"
-ANY_OTHER = "let any other path do where none of these is left"
-ALIKE = "like alike what is ranked (habit 1)"
-
-
-@dataclass(frozen=True)
-class Setting:
-    """A refused statement where it stands: the policy, the network, the locations at which its paths end, and the refusal."""
-
-    policy: Policy
-    network: Network
-    statement: Statement
-    targets: frozenset[str]
-    single: bool  # whether the statement has one case
-    refusal: Refusal
-
-    def having(self, expression: Expression, sources: Names | None = ()) -> Statement:
-        changes = {} if sources == () else {"sources": sources}
-        return self.statement.having(expression=expression, **changes)
-
-    def names(self, locations: Iterable[str]) -> Names:
-        """Names for these locations, in their order."""
-        return self.policy.shortest(self.network.ordered(locations))
-
-    def beginnings(self) -> list[list[str]]:
-        """The routers from which the refusal shows ways: its own, and those that are promised something."""
-        lines = self.refusal.lines
-        found = [line.router for line in lines if line.reason in ("rank", "listener", "no-step")] + [self.refusal.router]
-        routers = [name for name in dict.fromkeys(found) if name in self.network.routers and name not in self.targets]
-        return [[name] for name in routers]
-
-    def claimed(self) -> Names:
-        """The locations that the statement is for. An origin of its only case is no source."""
-        named = self.statement.sources
-        found = frozenset(self.network.locations) if named is None or "any" in named else self.policy.locations(named)
-        return self.network.ordered(found - self.targets if self.single else found)
-
-
-def one(setting: Setting, word: str, location: str) -> Call:
-    return Call(word, (setting.names([location]),))
+from .refusals import BETWEEN
+from .setting import (ALIKE, ANY, ANY_OTHER, CARRY_NOTHING, CLOSED, FAR_END, FEWER, FOLLOWED, KEPT_AWAY, MOST_BESIDE, MOST_MORE,
+                      MOST_NAMES, MOST_STEPS, NO_NAMES, NO_WAY_BACK, ONE_SOURCE, ONE_WAY, PATHS_NOT_SOURCES, UNRANKED_REST, Maker,
+                      Setting, one)
 
 
 # ---- waypoints
@@ -262,7 +203,7 @@ def no_names(setting: Setting) -> Maker:
 
 
 def one_source(setting: Setting) -> Maker:
-    """One side of an `or` is left out; or the two ways that a router ranks become fixed paths, for it alone."""
+    """One side of an `or` is left out; or the two ways that a router ranks become fixed paths, for it alone, if the statement names it."""
     for part, put in sites(setting.statement.expression):
         if isinstance(part, Joined) and part.binds == EITHER:
             for k in range(len(part.parts)):
@@ -273,7 +214,7 @@ def one_source(setting: Setting) -> Maker:
                     yield ONE_SOURCE, setting.having(put(kept), names)
                     yield ONE_SOURCE, setting.having(setting.statement.expression, names)
     for line in setting.refusal.lines:
-        if line.reason == "rank" and all(len(set(walk)) == len(walk) > 1 for walk in (line.first, line.second)):
+        if line.router in setting.named_sources() and line.reason == "rank" and all(len(set(walk)) == len(walk) > 1 for walk in (line.first, line.second)):
             fixed = [Call("path", tuple((name,) for name in walk)) for walk in (line.second, line.first)]
             yield ONE_SOURCE, setting.having(joined(RANKED, *fixed, ANY), (line.router,))
 
@@ -302,5 +243,6 @@ def alike(setting: Setting) -> Maker:
             yield ALIKE, setting.having(put(flat(part)))
 
 
-MAKERS = (paths_not_sources, unranked_rest, far_end_first, carry_nothing, kept_off_links, kept_away, closed_way_round, one_way,
-          no_way_back, no_names, fewer_sources, followed, one_source, any_other, alike)
+MAKERS = (regions_first, others_away, others_unused, paths_not_sources, unranked_rest, far_end_first, carry_nothing, kept_off_links,
+          kept_away, sets_carry_nothing, closed_way_round, one_way, no_way_back, no_names, fewer_sources, followed, one_source, any_other,
+          alike)

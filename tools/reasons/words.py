@@ -11,13 +11,13 @@ from .sketch import sketch
 
 MOST_LINES = 12  # lines of a refutation that are told
 MEANINGS = {
-    "too-many-ranks": "The statement stands for more than 64 alternatives: `and` multiplies those of its sides.",
-    "too-many-states": "There are more than 4,096 nodes: a router, with what is left of each alternative.",
+    "too-many-ranks": "The statement stands for more than 64 alternatives. `and` multiplies those of its sides.",
+    "too-many-states": "There are more than 4,096 nodes. A node is a router, with what is left of each alternative.",
     "too-many-steps": "The cases up to this one have more than 131,072 steps from a node to the next.",
-    "source-without-path": "`from` names {router}, and no path that the statement permits begins there, even with nothing dead.",
-    "mixed-source": "{router} may use {first}, and may not use {second}. But a walk that the statement permits ends with the second one, so "
-                    "others may need {router} to carry it. {router} has one route, and can't do both.",
-    "no-evidence": "A preference is a number for each node, and no numbers meet the rules:",
+    "source-without-path": "`from` names {router}. No path that the statement permits begins there, even with nothing dead.",
+    "mixed-source": "{router} may use {first}. It may not use {second}. But others may need {router} to carry that one: a longer walk "
+                    "that the statement permits ends with it. {router} has one route. It can't do both.",
+    "no-evidence": "A router likes its routes by numbers. No numbers meet these rules at once:",
 }
 
 
@@ -44,22 +44,23 @@ class Ways:
 
 def better_one(line: Line, way: Ways) -> str:
     if line.first == line.second:
-        return f"{line.router} would have to like {way(line.second)} better than itself, and no number does"
-    return f"{line.router} would have to like {way(line.second)} better than {way(line.first)}"
+        return f"{line.router} would have to like {way(line.second)} better than itself. No number does"
+    return f"{line.router} has to like {way(line.second)} better than {way(line.first)}"
 
 
 def loop(line: Line, way: Ways) -> str:
     """What a line says whose first way may have come over the neighbour."""
     router, other = line.router, line.other
     over, past = way.shows.get(line, (None, None))
-    came = f"may have come over {other} itself, along {way(line.along)}" + (f", as {alike(over, way)} has" if over else "")
+    second = f"{alike(over, way)} has come over {other}" if over else f"Another one may have come over {other}"
     if past:
-        begins = (f"{router} can't tell apart the routes at the node {way(line.first)}. One, as {alike(past, way)}, hasn't come over "
-                  f"{other}, and {other} takes it. Another one {came}.")
+        begins = (f"{router} can't tell apart the routes that look like {way(line.first)}. {alike(past, way)} hasn't come over {other}, and "
+                  f"{other} takes it. {second}, along {way(line.along)}.")
     else:
-        begins = f"A route at the node {way(line.first)} {came}."
-    left = (f"Then {other} takes nothing back and is left with that, which it may not like as well as what {router} gives it of "
-            f"{way(line.second)}, as said above.")
+        begins = f"A route of {router} that looks like {way(line.first)} may have come over {other}, along {way(line.along)}."
+        begins += f" One that has is {alike(over, way)}." if over else ""
+    left = (f"{other} takes nothing of that back. It is left with {way(line.along)}. As said above, it may not like that as well as what "
+            f"{router} gives it of {way(line.second)}.")
     return f"{begins} {left} So {better_one(line, way)}."
 
 
@@ -71,21 +72,22 @@ def sentence(line: Line, way: Ways) -> str:
     """What one line says, in words."""
     if line.reason == "loop":
         return loop(line, way)
+    router, other = line.router, line.other
     because: dict[str, Callable[[], str]] = {
-        "rank": lambda: f"it is promised the best rank that is left, and they have the ranks {line.ranks[1]} and {line.ranks[0]}",
-        "no-step": lambda: f"with the one it gives {line.other} a route, and with the other none",
-        "step": lambda: f"with either it gives {line.other} a route, and {line.other} may not be given the worse one, as said above",
-        "listener": lambda: f"with the one it offers {line.other} a route, and with the other none, or one that is ranked worse",
+        "rank": lambda: f"It is promised the best rank that is left. Their ranks are {line.ranks[1]} and {line.ranks[0]}",
+        "no-step": lambda: f"With the first {router} gives {other} a route. With the second it gives none",
+        "step": lambda: f"With either {router} gives {other} a route. As said above, {other} may not be given the worse one",
+        "listener": lambda: f"With the first {router} offers {other} a route. With the second it offers none, or one of a worse rank",
     }
-    return f"{better_one(line, way)}: {because[line.reason]()}."
+    return f"{better_one(line, way)}. {because[line.reason]()}."
 
 
 def closing(refusal: Refusal, way: Ways) -> str:
     """What closes the circle."""
-    first, second = way(refusal.first), way(refusal.second)
+    first, second, router = way(refusal.first), way(refusal.second), refusal.router
     if refusal.first != refusal.second:
-        return f"That closes the circle: {refusal.router} would have to like each of {first} and {second} better than the other one."
-    return f"That closes the circle. Both walks of the refusal lead to one node, {first}: no number serves for all routes there."
+        return f"That closes the circle. {router} would have to like {first} better than {second}, and {second} better than {first}."
+    return f"That closes the circle. {router} has one number for all routes that look like {first}. None serves."
 
 
 def told(refusal: Refusal, way: Ways) -> list[str]:

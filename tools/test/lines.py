@@ -66,6 +66,7 @@ ROWS = (
     Row("promises", "covered", {"covered": [2]}, CASE),
     Row("promises", "unused origin R3", {"unused": ["R3"]}, CASE),
     Row("promises", "uncarried 10.0.9.0/24", {"uncarried": ["10.0.9.0/24"]}, CASE),
+    Row("promises", "open 10.0.9.0/28 in 10.0.9.0/24 case 2", {"open": [["10.0.9.0/28", "10.0.9.0/24", 2]]}, CASE),
     Row("promises", "open 10.0.9.0/24 le 32 in 10.0.9.0/24 case 2", {"open": [["10.0.9.0/24 le 32", "10.0.9.0/24", 2]]}, CASE),
     Row("promises", COUNTED, {"last": COUNTED}, CASE),
     Row("cuts", "base router R1 rank 2"),

@@ -58,8 +58,9 @@ class Lines(unittest.TestCase):
 
 
 def is_of(row: Row, form: str) -> bool:
-    """Whether a row's line has a form of the page: a word in capitals there stands for one word, and the last for any."""
-    words = [r"\S+" if word.isupper() else re.escape(word) for word in form.split()]
+    """Whether a row's line has a form of the page: a word in capitals there stands for one word, PATTERN also for one with `le` and a length
+    behind it, and the last for any."""
+    words = [r"\S+(?: le \d+)?" if word == "PATTERN" else r"\S+" if word.isupper() else re.escape(word) for word in form.split()]
     return re.fullmatch(" ".join(words) + r"(?: \S+)*" if form.split()[-1].isupper() else " ".join(words), row.line) is not None
 
 

@@ -17,10 +17,12 @@ TOP = os.path.dirname(os.path.dirname(os.path.dirname(os.path.abspath(__file__))
 PROGRAM = os.path.abspath(os.environ.get("PROGRAM", os.path.join(TOP, "crates", "propane_cli", "out", "propane_cli")))
 ENVIRONMENT = dict(os.environ, PROGRAM=PROGRAM, WHY_SECONDS="3000")
 sys.dont_write_bytecode = True
-sys.path.insert(0, os.path.join(TOP, "tools"))
+sys.path[:0] = [os.path.join(TOP, "tools"), os.path.join(TOP, "tools", "test")]
 from reasons import picture  # noqa: E402
+from refused import TRIALS  # noqa: E402
 from texts import policy  # noqa: E402
 
+FIRST = 3  # repairs that a reader looks at
 HEAD, FAR, NEAR = "10.1.0.0/16 => ", "{ IPLS, CHIN, ATLA, NYCM, WASH }", "{ STTL, SNVA, LOSA, DNVR, HSTN }"
 # The folder, the topology and the policy, and the statements that are named in its place.
 REPAIRS = [
@@ -128,6 +130,25 @@ class Why(unittest.TestCase):
                     self.assertEqual((status, err), (0, ""))
                     for text in named:
                         self.assertIn(meaning(text, groups), found, text)
+
+    def test_first_tries_have_a_repair_that_does_what_was_wanted(self):
+        with ThreadPoolExecutor(2) as pool:
+            for trial, (status, out, err) in zip(TRIALS, pool.map(self.tried, TRIALS)):
+                with self.subTest(trial.name):
+                    self.assertEqual((status, err), (0, ""))
+                    found, wanted = ([meaning(text, trial.above) for text in texts] for texts in (printed(out), trial.wanted))
+                    self.assertTrue(any(each in wanted for each in found[:FIRST]), out)
+                    repairs = out.partition("\nRepairs: ")[2]
+                    self.assertEqual(repairs.count("newly allowed: "), len(found), out)
+                    self.assertNotRegex(repairs, r"^(?s:.*?)\n  1 [^\n]* >> any[^\n]*\n(?: {8}[^\n]*\n)* {8}newly allowed: (?!nothing)")
+
+    def tried(self, trial):
+        """What is said of a trial."""
+        paths = [os.path.join(self.folder, trial.name + ending) for ending in (".json", ".propane")]
+        for path, text in zip(paths, (trial.topology(), trial.above + trial.tried + "\n")):
+            with open(path, "w", encoding="utf-8") as file:
+                file.write(text)
+        return ended("why", *paths)
 
     def test_each_bad_statement_is_told(self):
         path = os.path.join(self.folder, "two bad.propane")

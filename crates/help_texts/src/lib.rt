@@ -2,11 +2,12 @@
 #![tactic(auto)]
 
 ghost use Rattle.std.specs.Prelude.{◌≡◌};
-ghost use Rattle.help_texts.specs.Pages.{help_text, usage_text, version_text};
+ghost use Rattle.help_texts.specs.Pages.{help_text, version_text};
 
 mod pages;
 mod topic;
 
+pub use pages::USAGE;
 pub use topic::Topic;
 
 /// What `help` writes: the page of a command, or a line for each.
@@ -24,11 +25,4 @@ pub fn version() -> &'static str
     ensures { result.now ≡ version_text }
 {
     pages::VERSION
-}
-
-/// What is said of words that are no command: one line, with each command and the names of what it reads.
-pub fn usage() -> &'static str
-    ensures { result.now ≡ usage_text }
-{
-    pages::USAGE
 }

@@ -246,13 +246,7 @@ fn takes_some(net: &Net, case: &Case, told: &Told<'_>) -> bool
 }
 
 /// How many routers, sessions and peers aren't claimed.
-fn all_unclaimed(
-    net: &Net,
-    policy: &Policy,
-    case: &Case,
-    told: &Told<'_>,
-    places: &[Source],
-) -> u64
+fn all_unclaimed(net: &Net, policy: &Policy, case: &Case, told: &Told<'_>, places: &[Source]) -> u64
     requires { length places.now < 9223372036854775808 }
     ensures { result ≡ count_by (is_unclaimed_in (promises_in told.now)) places.now + count_by (is_idle_in net.now (policy_of policy.now) case.now) (in_order net.now) }
 {
@@ -344,12 +338,7 @@ fn push_told(
 }
 
 /// Adds the lines of the origins at which no path ends.
-fn push_ends(
-    text: &mut Vec<u8>,
-    net: &Net,
-    case: &Case,
-    told: &Told<'_>,
-) -> Result<(), NoMemory>
+fn push_ends(text: &mut Vec<u8>, net: &Net, case: &Case, told: &Told<'_>) -> Result<(), NoMemory>
     ensures { OnOk result (text.new.items ≡ text.old.items ++ unused_lines net.now case.now (promises_in told.now)) }
 {
     for place in 0..net.routers().len() {

@@ -122,13 +122,7 @@ fn push_last(
     let origins = policy.origins();
     push_bare(text, policy, origins)?;
     push_parts(text, parts)?;
-    push_counts(
-        text,
-        cases,
-        counts,
-        uncarried(policy, origins),
-        parts.len(),
-    )
+    push_counts(text, cases, counts, uncarried(policy, origins), parts.len())
 }
 
 /// The text of what a policy promises, by the evidence for its cases: each case with the sources that it claims, their best ranks while

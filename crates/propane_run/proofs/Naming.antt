@@ -1,7 +1,8 @@
 -- The words that are a command are its word and the names that it reads, where it takes no others.
-use Rattle.std.proofs.Common.{◌≡◌, ◌⊎◌, ℕ, ◌+◌, List, [], ◌∷◌, Bool, true, false, Option, Some, None, length, refl, sym, ap, inl, inr, ◌∙◌}
+use Rattle.std.proofs.Common.{◌≡◌, ◌≢◌, ℕ, ◌+◌, List, [], ◌∷◌, Bool, true, false, Option, Some, None, length, refl, sym, ap, ◌∙◌, arith}
 use Rattle.std.specs.Prelude.{option_map, option_and_then, slice_get, codes, if◌then◌else◌, ◌||◌, nat_eq}
 use Rattle.std.specs.Str.{bytes_eq}
+use Rattle.std.proofs.lemmas.Bool.{eqb-true}
 use Rattle.std.proofs.lemmas.Slice.Eq.{bytes_eq-Decides}
 use Rattle.help_texts.specs.Pages.{topic_named, topics, word_of}
 use Rattle.help_texts.specs.declared.topic.Topic.{Topic}
@@ -16,7 +17,7 @@ use Rattle.propane_run.specs.declared.command.Outlook.TheVariants.{Replay, Drain
 use Rattle.propane_run.specs.Words.{command_of, help_of, name_count, names_read, other_words, prefix_word, sample_number, topic_asked, words_are}
 
 -- the command whose word a command's is
-topic_of : Command → Topic
+abbrev topic_of : Command → Topic
 topic_of Compile = topic.Compile
 topic_of Evidence = topic.Evidence
 topic_of Check = topic.Check
@@ -85,7 +86,7 @@ counted false c d h = absurd cc
 
 -- the first word of a command, and how many follow
 first : (word : List ℕ) (rest : List (List ℕ)) (c : Command) → words_are (word ∷ rest) ≡ Some c → topic_of c ≢ topic.Help → topic_of c ≢ topic.Version
-    → (word ≡ word_of (topic_of c)) × (nat_eq (length rest) (name_count c + other_words c) ≡ true)
+    → (word ≡ word_of (topic_of c)) × (length rest ≡ name_count c + other_words c)
 first word rest c h not_help not_version =
     let some = option_and_then_parts (λ d. if nat_eq (length rest) (name_count d + other_words d) then Some d else None) (option_and_then (λ t. command_of t rest) (topic_asked word)) c h in
     let count = counted (nat_eq (length rest) (name_count some.0 + other_words some.0)) some.0 c some.2 in
@@ -94,22 +95,22 @@ first word rest c h not_help not_version =
     let is : topic_of c ≡ t = sym (ap topic_of count.1) ∙ named t rest some.0 topic.2 in
     let asked : topic_asked word ≡ Some (topic_of c) = topic.1 ∙ ap (λ x. Some x) (sym is) in (
       own_word (bytes_eq word (codes "--help") || bytes_eq word (codes "-h")) (bytes_eq word (codes "--version")) word (topic_of c) not_help not_version asked,
-      sym (ap (λ d. nat_eq (length rest) (name_count d + other_words d)) count.1) ∙ count.0,
+      eqb-true (length rest) (name_count c + other_words c) (sym (ap (λ d. nat_eq (length rest) (name_count d + other_words d)) count.1) ∙ count.0),
     )
 
-two : (rest : List (List ℕ)) → nat_eq (length rest) 2 ≡ true → rest ≡ names_read ([] ∷ rest) Compile
-two [] h = absurd cc
-two (a ∷ []) h = absurd cc
+two : (rest : List (List ℕ)) → length rest ≡ 2 → rest ≡ names_read ([] ∷ rest) Compile
+two [] h = absurd (omega (arith, h))
+two (a ∷ []) h = absurd (omega (arith, h))
 two (a ∷ b ∷ []) h = refl
-two (a ∷ b ∷ c ∷ more) h = absurd cc
+two (a ∷ b ∷ c ∷ more) h = absurd (omega (arith, h))
 
-four : (rest : List (List ℕ)) → nat_eq (length rest) 4 ≡ true → rest ≡ names_read ([] ∷ rest) Check
-four [] h = absurd cc
-four (a ∷ []) h = absurd cc
-four (a ∷ b ∷ []) h = absurd cc
-four (a ∷ b ∷ c ∷ []) h = absurd cc
+four : (rest : List (List ℕ)) → length rest ≡ 4 → rest ≡ names_read ([] ∷ rest) Check
+four [] h = absurd (omega (arith, h))
+four (a ∷ []) h = absurd (omega (arith, h))
+four (a ∷ b ∷ []) h = absurd (omega (arith, h))
+four (a ∷ b ∷ c ∷ []) h = absurd (omega (arith, h))
 four (a ∷ b ∷ c ∷ d ∷ []) h = refl
-four (a ∷ b ∷ c ∷ d ∷ e ∷ more) h = absurd cc
+four (a ∷ b ∷ c ∷ d ∷ e ∷ more) h = absurd (omega (arith, h))
 
 pub compile_words : (words : List (List ℕ)) → words_are words ≡ Some Compile → words ≡ codes "compile" ∷ names_read words Compile
 compile_words [] h = absurd (let none : None ≡ Some Compile = h in cc)

@@ -17,7 +17,7 @@ mod jobs;
 mod laws;
 
 pub use command::{Command, Course, Outlook, words_of};
-use help_texts::usage as usage_line;
+use help_texts::USAGE;
 use input_output::{Inputs, Sink};
 pub use laws::{commands_say_one_thing, told_texts_come_to_one_thing, written_pairs_pass};
 pub use run_base::Status;
@@ -59,7 +59,7 @@ fn run_whole<I: Inputs, O: Sink, E: Sink>(
             let came = answer(alloc, words, inputs, command);
             deliver(&came, out, err)
         }
-        None => send(err, usage_line().as_bytes(), Status::Usage),
+        None => send(err, USAGE, Status::Usage),
     }
 }
 

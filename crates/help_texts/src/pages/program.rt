@@ -34,8 +34,8 @@ end with status 2 and one line on the error output.
 ";
 
 /// What is said of words that are no command: each command with the names of what it reads.
-pub const USAGE: &str =
-    "propane: usage: compile TOPO POLICY, evidence TOPO POLICY, check TOPO POLICY CONFIG EVIDENCE, explain TOPO POLICY, replay TOPO POLICY SCENARIO, trace TOPO POLICY EVENTS, sample N, migrate CONFIG, impact TOPO POLICY PREFIX, routemap TOPO POLICY, checkmap CONFIG MAPS, lint TOPO POLICY, audit TOPO POLICY CONFIG EVIDENCE SCENARIO TABLES, help [COMMAND], version, drain TOPO POLICY SCENARIO, settle TOPO POLICY EVENTS, promises TOPO POLICY, whatif TOPO POLICY SCENARIO, multipath TOPO POLICY SCENARIO, maps CONFIG\n";
+pub const USAGE: &[u8] =
+    b"propane: usage: compile TOPO POLICY, evidence TOPO POLICY, check TOPO POLICY CONFIG EVIDENCE, explain TOPO POLICY, replay TOPO POLICY SCENARIO, trace TOPO POLICY EVENTS, sample N, migrate CONFIG, impact TOPO POLICY PREFIX, routemap TOPO POLICY, checkmap CONFIG MAPS, lint TOPO POLICY, audit TOPO POLICY CONFIG EVIDENCE SCENARIO TABLES, help [COMMAND], version, drain TOPO POLICY SCENARIO, settle TOPO POLICY EVENTS, promises TOPO POLICY, whatif TOPO POLICY SCENARIO, multipath TOPO POLICY SCENARIO, maps CONFIG\n";
 
 /// How `help` is used.
 pub const HELP: &str = "usage: propane help [COMMAND]
