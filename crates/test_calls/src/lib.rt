@@ -1,13 +1,16 @@
 //! Public calls that no command makes in this form, on cases that were worked by hand: a single case's graph, what can be reached
-//! in it, its relation and its refutation; what the entries of route maps let through; which patterns are covered. A call that
-//! nothing runs could always answer that memory is refused, and would still be proved. Each function goes over tables and gives
-//! the first row that is wrong. Their calls are tests of `propane_tests`.
+//! in it, its relation and its refutation; what the entries of route maps let through; which patterns are covered; which prefixes are
+//! the least of the pairs of first patterns that two policies have. A call that nothing runs could always answer that memory is
+//! refused, and would still be proved. Each function goes over tables and gives the first row that is wrong. Their calls are tests of
+//! `propane_tests`.
 #![tactic(auto)]
 
 mod covers;
 mod entries;
+mod leasts;
 mod relations;
 
 pub use covers::wrong_cover;
 pub use entries::wrong_entry;
+pub use leasts::wrong_least;
 pub use relations::wrong_relation;

@@ -1,6 +1,6 @@
 //! What definitions mean and what calls give, on cases that were worked by hand.
 use std::test::Fail;
-use test_calls::{wrong_cover, wrong_entry, wrong_relation};
+use test_calls::{wrong_cover, wrong_entry, wrong_least, wrong_relation};
 use test_meanings::{
     outside_is_told, sample_has_its_texts, wrong_bits, wrong_class, wrong_graph, wrong_meaning,
     wrong_outcome, wrong_rank, wrong_text, wrong_words,
@@ -22,5 +22,6 @@ fn no_row_is_wrong(rt: HostRuntime) -> Result<(), Fail> {
     assert_eq!(rt; wrong_relation(alloc)?, None);
     assert_eq!(rt; wrong_entry(alloc)?, None);
     assert_eq!(rt; wrong_cover(alloc)?, None);
+    assert_eq!(rt; wrong_least(alloc)?, None);
     Ok(())
 }
