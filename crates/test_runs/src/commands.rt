@@ -19,7 +19,7 @@ pub(crate) const COMPILE: Row = (
 );
 
 /// Each command, as it ends in each way.
-pub(crate) const ROWS: [Row; 32] = [
+pub(crate) const ROWS: [Row; 33] = [
     COMPILE,
     (
         "evidence",

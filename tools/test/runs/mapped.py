@@ -106,7 +106,7 @@ list 2 permit 10.0.2.0/24
     ("the maps of a configuration", ["maps"], [TWO_ROUTERS_CONFIG], DONE, TWO_ROUTERS_MAPS),
     ("the maps of a configuration that nobody compiled: tags and preferences of its own", ["maps"], ["""\
 propane-config 2
-class 1 10.0.1.0/24 10.0.2.0/24 le 28
+class 1 10.0.1.0/24, 10.0.2.0/24 le 28
 class 2 0.0.0.0/0 le 32
 router A asn 64512 id 10.255.0.1
 originate 1 10.0.1.0/24 tag 64512:0:7
