@@ -8,7 +8,7 @@ from __future__ import annotations
 import json
 from typing import Any
 
-from .forms import ABOVE, LINES, NONE_ABOVE, forms_of
+from .forms import ABOVE, LINES, NONE_ABOVE, format_of, forms_of
 from .lines import Fields
 
 EDITION = 1  # of the form of these documents
@@ -28,7 +28,7 @@ def document_of(command: str, status: int, text: str) -> Fields:
         if found["kind"] == upper:
             below = []
             found["lines"] = below
-    return {"propane": EDITION, "command": command, "status": status, "lines": lines}
+    return {"propane": EDITION, "command": command, "format": format_of(command), "status": status, "lines": lines}
 
 
 def json_of(command: str, status: int, text: str) -> str:
@@ -79,10 +79,11 @@ def schema() -> Fields:
         "properties": {
             "propane": {"const": EDITION},
             "command": {"type": "string"},
+            "format": {"type": "integer", "minimum": 1},
             "status": {"enum": [0, 7]},
             "lines": {"type": "array", "items": {"$ref": "#/$defs/line"}},
         },
-        "required": ["propane", "command", "status", "lines"],
+        "required": ["propane", "command", "format", "status", "lines"],
         "additionalProperties": False,
         "$defs": {"line": {"anyOf": [shape for kind in sorted(kinds) for shape in kinds[kind]] + [text]}},
     }

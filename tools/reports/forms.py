@@ -37,8 +37,8 @@ base       base router {router} {rank!}
 base       base session {router} {peer} {rank!}
 cut        cut link {link&}
 cut        cut router {router}
-cut        cut link {link&} moves {moves#}
-cut        cut router {router} moves {moves#}
+cut        cut link {link&} moves {moves#} shifts {shifts#}
+cut        cut router {router} moves {moves#} shifts {shifts#}
 router     router {router} {rank!}
 session    session {router} {peer} {rank!}
 cuts       cuts {cuts#} changed {changed#}
@@ -118,12 +118,19 @@ LINES = {
     "sample": SUMMARY,
     "version": "propane  propane {version}\nkit  kit {kit}\n",
 }
+# The format of a report, where it is no longer the first one.
+LATER = {"whatif": 2}
 # The lines below which others stand, up to the next of their kind or the line that ends the report.
 ABOVE = {"promises": ("case", frozenset({"uncarried", "open", "cases"})), "whatif": ("cut", frozenset({"cuts"})),
          "impact": ("cut", frozenset({"cuts"}))}
 NONE_ABOVE: tuple[str, frozenset[str]] = ("", frozenset())
 # What the other commands write is no report: a configuration, evidence, maps or a page of help.
 NO_REPORTS = {"compile", "evidence", "migrate", "routemap", "help", "maps"}
+
+
+def format_of(command: str) -> int:
+    """Which format of its report a command writes."""
+    return LATER.get(command, 1)
 
 
 def forms_of(command: str) -> list[Form]:

@@ -6,7 +6,7 @@ from __future__ import annotations
 from dataclasses import dataclass, field
 from typing import Any
 
-CASE, CUT_LINK, CUT_ROUTER = "case 2 statement 3\n", "cut link R1 P1 moves 2\n", "cut router R2 moves 0\n"
+CASE, CUT_LINK, CUT_ROUTER = "case 2 statement 3\n", "cut link R1 P1 moves 2 shifts 3\n", "cut router R2 moves 0 shifts 1\n"
 COUNTED = "cases 1 unclaimed 0 transit 0 covered 0 unused 0 uncarried 0 open 0"  # the last line of promises
 NAMES = ("R1", "R2", "R3", "P1", "P2")  # routers and peers of the lines
 
@@ -71,9 +71,9 @@ ROWS = (
     Row("promises", COUNTED, {"last": COUNTED}, CASE),
     Row("cuts", "base router R1 rank 2"),
     Row("cuts", "base session R1 P1 none"),
-    Row("cuts", "cut link R1 P1 moves 2", {"cut": ["link", "P1~R1", 2]}),
-    Row("cuts", "cut link R1 P1", {"cut": ["link", "P1~R1", 0]}),
-    Row("cuts", "cut router R2 moves 0", {"cut": ["router", "R2", 0]}),
+    Row("cuts", "cut link R1 P1 moves 2 shifts 3", {"cut": ["link", "P1~R1", 2, 3]}),
+    Row("cuts", "cut link R1 P1", {"cut": ["link", "P1~R1", 0, 0]}),
+    Row("cuts", "cut router R2 moves 0 shifts 1", {"cut": ["router", "R2", 0, 1]}),
     Row("cuts", "router R1 rank 3", {"worse": [["R1", 3]]}, CUT_LINK),
     Row("cuts", "session R1 P1 rank 2", {"worse": [["R1–P1", 2]]}, CUT_LINK),
     Row("cuts", "router R1 none", {"lost": ["R1"]}, CUT_LINK),

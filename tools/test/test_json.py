@@ -63,7 +63,8 @@ class Json(unittest.TestCase):
             with self.subTest(name):
                 document = json.loads(json_of(command, status, text))
                 self.assertEqual(text_of(document), text)
-                self.assertEqual(document, {"propane": 1, "command": command, "status": status, "lines": document["lines"]})
+                self.assertEqual(document, {
+                    "propane": 1, "command": command, "format": 2 if command == "whatif" else 1, "status": status, "lines": document["lines"]})
                 self.assertNotIn("text", [line["kind"] for line in all_lines(document["lines"])])
                 self.assertTrue(is_of(document, schema, schema))
                 seen.add(command)

@@ -1,16 +1,12 @@
 -- One ranking, and so one impact.
 use Rattle.std.proofs.Common.{◌≡◌, ℕ, zero, suc, ◌<◌, List, [], ◌∷◌, Option, Some, None, refl, sym, ap, ap₂, ◌∙◌, subst, arith}
 use Rattle.std.specs.Prelude.{map, slice_get}
-use Rattle.net_base.specs.Network.{PlainNet, IsNet}
-use Rattle.net_base.specs.Prefixes.{PlainPrefix, IsPrefix}
-use Rattle.policy_base.specs.Policies.{PlainPolicy, PlainStatement, IsPolicyOf}
+use Rattle.net_base.specs.Network.{PlainNet}
+use Rattle.net_base.specs.Prefixes.{PlainPrefix}
+use Rattle.policy_base.specs.Policies.{PlainPolicy, PlainStatement}
 use Rattle.policy_base.specs.Governing.{statement_of}
 use Rattle.list_law.specs.Members.{IsIn}
-use Rattle.config_base.specs.Configs.{PlainConfig}
-use Rattle.evidence_base.specs.Made.{PlainCaseEvidence}
-use Rattle.evidence_law.specs.Passes.{Passes}
-use Rattle.outcome_base.specs.Outcomes.{Failures, Outcome}
-use Rattle.settled_law.proofs.SettledLaw.{settled_outcomes_are_one}
+use Rattle.outcome_base.specs.Outcomes.{Failures}
 use Rattle.impact_law.specs.declared.impact.SourceRank.{SourceRank}
 use Rattle.impact_law.specs.declared.impact.Cut.{Cut}
 use Rattle.impact_law.specs.declared.impact.CutRow.{CutRow}
@@ -18,7 +14,6 @@ use Rattle.impact_law.specs.declared.impact.Impact.{Impact}
 use Rattle.impact_law.specs.BestRanks.{IsBestRank}
 use Rattle.impact_law.specs.Cuts.{live_cuts, with_cut}
 use Rattle.impact_law.specs.Impacts.{ImpactsAreOne, IsBareImpact, IsImpact, IsImpactBy, IsRanking, Precedes, RankingsAreOne, RowsAreOfLiveCuts, begin_at, changed, row_of}
-use Rattle.impact_law.specs.Moves.{IsSettledOutcome, WhatIfsAreOne, moved}
 use Rattle.impact_law.proofs.BestRanks.{best_ranks_are_one}
 
 -- ---- two ascending lists with the same members are one
@@ -125,19 +120,3 @@ rows_are_of_live_cuts net policy f p impact x = go (statement_of policy p) refl 
     go : (o : Option PlainStatement) → statement_of policy p ≡ o → IsImpact net policy f p impact → map (λ (row : CutRow). row.cut) impact.rows ≡ live_cuts net f
     go None is = rw is (λ x. ap (map (λ (row : CutRow). row.cut)) x.rows ∙ rows_cut (λ cut. []) (live_cuts net f))
     go (Some s) is = rw is (λ x. ap (map (λ (row : CutRow). row.cut)) x.rows ∙ rows_cut (λ cut. changed impact.base (x.after cut)) (live_cuts net f))
-
-module _ (net : PlainNet) (policy : PlainPolicy) (config : PlainConfig) (cs : List PlainCaseEvidence) (rules : IsNet net)
-    (kept : IsPolicyOf net policy) (passes : Passes net policy config cs) (p : PlainPrefix) (prefix : IsPrefix p) where
-  -- a network settles in one way
-  pub settled_one : (f : Failures) (a b : Outcome) → IsSettledOutcome net policy config f p a → IsSettledOutcome net policy config f p b → a ≡ b
-  settled_one f a b x y = settled_outcomes_are_one net policy config cs rules kept passes p f prefix a b x.size y.size x.stable y.stable
-
-pub what_ifs_are_one : WhatIfsAreOne
-what_ifs_are_one net policy config cs rules kept passes f p prefix a b x y =
-    let impact = impacts_are_one net policy f p a.impact b.impact x.impact y.impact in
-    let before = settled_one net policy config cs rules kept passes p prefix f x.before y.before x.settled y.settled in
-    let after : x.after ≡ y.after = λ i. λ cut. settled_one net policy config cs rules kept passes p prefix (with_cut cut f) (x.after cut) (y.after cut) (x.resettled cut) (y.resettled cut) i in
-    let moves : a.moves ≡ b.moves =
-    x.moves
-    ∙ ap₂ (λ (o : Outcome) (q : Cut → Outcome). map (λ (cut : Cut). moved net cut o (q cut)) (live_cuts net f)) before after ∙ sym y.moves in
-    λ i. record { impact = impact i; moves = moves i }

@@ -10,6 +10,7 @@ use Rattle.impact_law.specs.declared.impact.Cut.{Cut}
 use Rattle.impact_law.specs.declared.impact.Cut.TheVariants.{Link, Router}
 use Rattle.impact_law.specs.declared.impact.CutRow.{CutRow}
 use Rattle.impact_law.specs.declared.impact.Impact.{Impact}
+use Rattle.impact_law.specs.declared.impact.Moves.{Moves}
 use Rattle.impact_law.specs.declared.impact.SourceRank.{SourceRank}
 use Rattle.impact_law.specs.declared.impact.WhatIf.{WhatIf}
 
@@ -57,14 +58,18 @@ impact_text net config p impact =
     ++ flat_map (row_text net) told
     ++ count_line (length impact.rows) (length told)
 
--- ---- of what a cut besides changes, and how many it moves
+-- ---- of what a cut besides changes, and whom it moves
+
+-- how many routers a cut moves to another route, and how many to another multipath set
+unfoldable pub counts_text : Moves → List ℕ
+counts_text m = codes " moves " ++ decimal m.routes ++ codes " shifts " ++ decimal m.sets ++ codes "\n"
 
 -- a cut, how many it moves, and what it changes
-unfoldable pub moves_text : PlainNet → CutRow × ℕ → List ℕ
-moves_text net row = cut_text net row.0.cut ++ codes " moves " ++ decimal row.1 ++ codes "\n" ++ flat_map (entry_line net) row.0.changed
+unfoldable pub moves_text : PlainNet → CutRow × Moves → List ℕ
+moves_text net row = cut_text net row.0.cut ++ counts_text row.1 ++ flat_map (entry_line net) row.0.changed
 
-abbrev pub changes_or_moves : CutRow × ℕ → Bool
-changes_or_moves row = changes row.0 || not (row.1 == 0)
+abbrev pub changes_or_moves : CutRow × Moves → Bool
+changes_or_moves row = changes row.0 || not (row.1.routes == 0) || not (row.1.sets == 0)
 
 -- the same, where each cut that changes or moves something tells how many it moves
 abbrev pub what_if_text : PlainNet → PlainConfig → PlainPrefix → WhatIf → List ℕ

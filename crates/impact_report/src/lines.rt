@@ -1,9 +1,9 @@
 //! The lines of an impact. Each `push_` function adds a text to the end of another.
 ghost use Rattle.std.specs.Prelude.{◌≡◌, ◌++◌, IfOk, OnOk, filter, length};
 ghost use Rattle.std.specs.List.{flat_map, zip};
-ghost use Rattle.impact_report.specs.Texts.{base_line, changes, changes_or_moves, count_line, cut_text, entry_line, moves_text, rank_text, row_text};
+ghost use Rattle.impact_report.specs.Texts.{base_line, changes, changes_or_moves, count_line, counts_text, cut_text, entry_line, moves_text, rank_text, row_text};
 
-use impact_law::{Cut, CutRow, SourceRank};
+use impact_law::{Cut, CutRow, Moves, SourceRank};
 use input_output::NoMemory;
 use net_base::Net;
 use outcome_report::{push_next, push_source};
@@ -109,23 +109,33 @@ pub fn push_rows(text: &mut Vec<u8>, net: &Net, rows: &[CutRow]) -> Result<usize
     Ok(told)
 }
 
+/// Adds how many routers a cut moves to another route, and how many to another multipath set.
+#[tactic(auto, unfolding(crate::specs::Texts::counts_text))]
+fn push_moved(text: &mut Vec<u8>, moves: Moves) -> Result<(), NoMemory>
+    ensures { OnOk result (text.new.items ≡ text.old.items ++ counts_text moves) }
+{
+    push_bytes(text, b" moves ")?;
+    push_number(text, u64::from(moves.routes))?;
+    push_bytes(text, b" shifts ")?;
+    push_number(text, u64::from(moves.sets))?;
+    push_bytes(text, b"\n")
+}
+
 /// Adds the lines of a cut, of how many routers it moves and of what it changes.
 #[tactic(auto, unfolding(crate::specs::Texts::moves_text))]
-fn push_moves(text: &mut Vec<u8>, net: &Net, row: &CutRow, moves: u32) -> Result<(), NoMemory>
+fn push_moves(text: &mut Vec<u8>, net: &Net, row: &CutRow, moves: Moves) -> Result<(), NoMemory>
     ensures { OnOk result (text.new.items ≡ text.old.items ++ moves_text net.now (row.now, moves)) }
 {
     push_cut(text, net, row.cut)?;
-    push_bytes(text, b" moves ")?;
-    push_number(text, u64::from(moves))?;
-    push_bytes(text, b"\n")?;
+    push_moved(text, moves)?;
     push_entries(text, net, row.changed.as_slice())
 }
 
 /// Whether a cut changes a rank or moves a router.
-fn has_effect(row: &CutRow, moves: u32) -> bool
+fn has_effect(row: &CutRow, moves: Moves) -> bool
     ensures { result ≡ changes_or_moves (row.now, moves) }
 {
-    changes_rank(row) || moves != 0
+    changes_rank(row) || moves.routes != 0 || moves.sets != 0
 }
 
 /// Adds the lines of the rows that change or move something, each with how many routers it moves, and returns how many these are.
@@ -133,7 +143,7 @@ pub fn push_moving_rows(
     text: &mut Vec<u8>,
     net: &Net,
     rows: &[CutRow],
-    moves: &[u32],
+    moves: &[Moves],
 ) -> Result<usize, NoMemory>
     requires { length moves.now ≡ length rows.now }
     ensures text { OnOk result (text.new.items ≡ text.old.items ++ flat_map (moves_text net.now) (filter changes_or_moves (zip rows.now moves.now))) }

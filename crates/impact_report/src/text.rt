@@ -46,7 +46,7 @@ pub fn impact_text(
 }
 
 /// The text of what cuts change and move: as that of an impact, where each cut that changes or moves something tells how many routers it
-/// moves.
+/// moves to another route, and how many to another multipath set.
 pub fn what_if_text(
     alloc: Global,
     net: &Net,

@@ -1,4 +1,4 @@
--- How many routers move is told for each row.
+-- Whom a cut moves is told for each row.
 use Rattle.std.proofs.Common.{◌≡◌, length, sym, ap, ◌∙◌}
 use Rattle.std.proofs.lemmas.List.{length-map}
 use Rattle.net_base.specs.Network.{PlainNet}
@@ -6,9 +6,9 @@ use Rattle.net_base.specs.Prefixes.{PlainPrefix}
 use Rattle.policy_base.specs.Policies.{PlainPolicy}
 use Rattle.config_base.specs.Configs.{PlainConfig}
 use Rattle.outcome_base.specs.Outcomes.{Failures}
-use Rattle.impact_law.specs.Moves.{IsWhatIf}
 use Rattle.impact_law.specs.declared.impact.WhatIf.{WhatIf}
 use Rattle.impact_law.proofs.OneImpact.{rows_are_of_live_cuts}
+use Rattle.whatif_report.specs.Moves.{IsWhatIf}
 
 pub as_many : (net : PlainNet) (policy : PlainPolicy) (config : PlainConfig) (f : Failures) (p : PlainPrefix) (w : WhatIf) → IsWhatIf net policy config f p w → length w.moves ≡ length w.impact.rows
 as_many net policy config f p w is =

@@ -17,6 +17,16 @@ of_situation P s net policy config scenario outcome n q k f o x =
     (subst (λ (a : PlainPolicy). P net a s.config.now s.scenario.now s.outcome.now.routes) q
     (subst (λ (a : PlainNet). P a (policy_of s.policy.now) s.config.now s.scenario.now s.outcome.now.routes) n x))))
 
+pub from_situation : (P : PlainNet → PlainPolicy → PlainConfig → Scenario → Outcome → Type 0) (s : Situation) (net : PlainNet) (policy : PlainPolicy) (config : PlainConfig) (scenario : Scenario) (outcome : Outcome)
+    → s.net.now ≡ net → policy_of s.policy.now ≡ policy → s.config.now ≡ config → s.scenario.now ≡ scenario → s.outcome.now.routes ≡ outcome
+    → P net policy config scenario outcome → P s.net.now (policy_of s.policy.now) s.config.now s.scenario.now s.outcome.now.routes
+from_situation P s net policy config scenario outcome n q k f o x =
+    subst (λ (a : Outcome). P s.net.now (policy_of s.policy.now) s.config.now s.scenario.now a) (sym o)
+    (subst (λ (a : Scenario). P s.net.now (policy_of s.policy.now) s.config.now a outcome) (sym f)
+    (subst (λ (a : PlainConfig). P s.net.now (policy_of s.policy.now) a scenario outcome) (sym k)
+    (subst (λ (a : PlainPolicy). P s.net.now a config scenario outcome) (sym q)
+    (subst (λ (a : PlainNet). P a policy config scenario outcome) (sym n) x))))
+
 pub in_situation : (P : PlainNet → PlainPolicy → PlainConfig → Type 0) (s : Situation) (net : PlainNet) (policy : PlainPolicy) (config : PlainConfig)
     → s.net.now ≡ net → policy_of s.policy.now ≡ policy → s.config.now ≡ config → P net policy config → P s.net.now (policy_of s.policy.now) s.config.now
 in_situation P s net policy config n q k x =

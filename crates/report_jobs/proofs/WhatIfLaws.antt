@@ -9,8 +9,8 @@ use Rattle.scenario_reader.specs.Spelled.{spelled as scenario_spelled}
 use Rattle.scenario_reader.proofs.ReadPrefixes.{spelled_prefix}
 use Rattle.scenarios.specs.declared.scenario.Scenario.{Scenario}
 use Rattle.scenarios.specs.Scenarios.{failures_of}
-use Rattle.impact_law.proofs.OneImpact.{what_ifs_are_one}
 use Rattle.impact_report.specs.Texts.{what_if_text}
+use Rattle.whatif_report.proofs.OneWhatIf.{what_ifs_are_one}
 use Rattle.run_base.proofs.Jobs.{IsJob}
 use Rattle.input_texts.specs.FaultLines.{scenario_line}
 use Rattle.compile_jobs.specs.Compiled.{IsCompiled}

@@ -7,14 +7,14 @@ use Rattle.evidence_base.specs.Made.{PlainCaseEvidence}
 use Rattle.scenario_reader.specs.Spelled.{spelled as scenario_spelled}
 use Rattle.scenarios.specs.declared.scenario.Scenario.{Scenario}
 use Rattle.scenarios.specs.Scenarios.{failures_of}
-use Rattle.impact_law.specs.Moves.{IsWhatIf}
 use Rattle.impact_law.specs.declared.impact.WhatIf.{WhatIf}
 use Rattle.impact_report.specs.Texts.{what_if_text}
+use Rattle.whatif_report.specs.Moves.{IsWhatIf}
 use Rattle.compile_jobs.specs.Compiling.{SaysOfThree}
 use Rattle.run_base.specs.Said.{Said}
 use Rattle.input_texts.specs.FaultLines.{scenario_line}
 
--- The text tells what each cut besides the scenario's failures changes for its prefix, and how many routers it moves.
+-- The text tells what each cut besides the scenario's failures changes for its prefix, and whom it moves.
 pub record IsWhatIfText (net : PlainNet) (policy : PlainPolicy) (config : PlainConfig) (scenario : Scenario) (bytes : List ℕ) : Type 0 where
   pub what_if : WhatIf
   pub is : IsWhatIf net policy config (failures_of scenario) scenario.prefix what_if

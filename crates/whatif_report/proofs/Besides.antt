@@ -15,17 +15,20 @@ use Rattle.scenarios.specs.declared.survivors.Survivors.{Survivors}
 use Rattle.scenarios.proofs.Members.{any-members}
 use Rattle.impact_law.specs.Cuts.{with_cut}
 use Rattle.impact_law.specs.declared.impact.Cut.TheVariants.{Link, Router}
-use Rattle.whatif_report.specs.Cutting.{AreSameFailures}
+use Rattle.whatif_report.specs.Cutting.{AreSameFailures, IsWithCut}
 
 -- a link behind the others is as one in front of them
-pub link_besides : (s t : Scenario) (a b : ℕ) → t ≡ record s { dead_links = s.dead_links ++ (a, b) ∷ [] } → AreSameFailures (failures_of t) (with_cut (Link a b) (failures_of s))
-link_besides s t a b is = record {
+link_failures : (s t : Scenario) (a b : ℕ) → t ≡ record s { dead_links = s.dead_links ++ (a, b) ∷ [] } → AreSameFailures (failures_of t) (with_cut (Link a b) (failures_of s))
+link_failures s t a b is = record {
   dead = λ l. any-members t.dead l ∙ ap (λ (u : Scenario). holds u.dead l) is ∙ sym (any-members s.dead l);
   links = λ x y.
       ap (λ (u : Scenario). is_dead_link (failures_of u) x y) is ∙ list_any-append (joins x y) s.dead_links ((a, b) ∷ [])
       ∙ ap (λ o. is_dead_link (failures_of s) x y || o) (or-false (joins x y (a, b))) ∙ or_comm (is_dead_link (failures_of s) x y) (joins x y (a, b));
   silent = λ r p. ap (λ (u : Scenario). is_silent (failures_of u) r p) is;
 }
+
+pub link_besides : (s t : Scenario) (a b : ℕ) → t ≡ record s { dead_links = s.dead_links ++ (a, b) ∷ [] } → IsWithCut s (Link a b) t
+link_besides s t a b is = record { prefix = ap (λ (u : Scenario). u.prefix) is; failures = link_failures s t a b is }
 
 turned : (a b : ℕ) → (a == b) ≡ (b == a)
 turned a b = elim (cases_Bool (a == b)) [
@@ -37,14 +40,18 @@ turned a b = elim (cases_Bool (a == b)) [
 ]
 
 -- a router that is put into a set is as one in front of the set's
-pub router_besides : (s t : Scenario) (r : ℕ) → ((l : ℕ) → holds t.dead l ≡ (holds s.dead l || l == r)) → t.dead_links ≡ s.dead_links → t.silent ≡ s.silent
+router_failures : (s t : Scenario) (r : ℕ) → ((l : ℕ) → holds t.dead l ≡ (holds s.dead l || l == r)) → t.dead_links ≡ s.dead_links → t.silent ≡ s.silent
     → AreSameFailures (failures_of t) (with_cut (Router r) (failures_of s))
-router_besides s t r dead links silent = record {
+router_failures s t r dead links silent = record {
   dead = λ l.
       any-members t.dead l ∙ dead l ∙ or_comm (holds s.dead l) (l == r) ∙ ap₂ (λ b o. b || o) (turned l r) (sym (any-members s.dead l));
   links = λ x y. ap (λ (es : List (ℕ × ℕ)). list_any (joins x y) es) links;
   silent = λ x y. ap (λ (es : List (ℕ × ℕ)). list_any (λ (e : ℕ × ℕ). e.0 == x && e.1 == y) es) silent;
 }
+
+pub router_besides : (s t : Scenario) (r : ℕ) → ((l : ℕ) → holds t.dead l ≡ (holds s.dead l || l == r)) → t.dead_links ≡ s.dead_links → t.silent ≡ s.silent → t.prefix ≡ s.prefix
+    → IsWithCut s (Router r) t
+router_besides s t r dead links silent prefix = record { prefix = prefix; failures = router_failures s t r dead links silent }
 
 -- tables of the same failures are the same tables
 pub same_survivors : (net : PlainNet) (f h : Failures) (s : Survivors) → AreSameFailures f h → AreSurvivors net f s → AreSurvivors net h s

@@ -1,4 +1,14 @@
-mod Besides
-mod Counting
-mod Staying
-mod Living
+pub mod Alike
+pub mod Besides
+pub mod Collecting
+pub mod Counting
+pub mod FarEnds
+pub mod Following
+pub mod Gifts
+pub mod Living
+pub mod Marking
+pub mod Members
+pub mod OneWhatIf
+pub mod StandIn
+pub mod Staying
+pub mod Touching

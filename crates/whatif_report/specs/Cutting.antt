@@ -1,15 +1,13 @@
--- Cuts of a network, and what they move.
-use Rattle.std.specs.Prelude.{◌≡◌, ℕ, ◌<◌, Bool, false, List, length, map, Option, Some, None, if◌then◌else◌}
+-- Cuts of a network, and what goes over them.
+use Rattle.std.specs.Prelude.{◌≡◌, ℕ, ◌<◌, Bool, false, List, length, Option, Some, None, if◌then◌else◌}
 use Rattle.list_law.specs.Members.{IsIn}
 use Rattle.net_base.specs.Network.{PlainNet}
-use Rattle.net_base.specs.Prefixes.{PlainPrefix}
-use Rattle.policy_base.specs.Policies.{PlainPolicy}
-use Rattle.config_base.specs.Configs.{PlainConfig}
 use Rattle.config_base.specs.declared.route.Route.{Route}
 use Rattle.outcome_base.specs.Outcomes.{Failures, Outcome, is_dead, is_dead_link, is_silent, route_at}
+use Rattle.scenarios.specs.Scenarios.{failures_of}
+use Rattle.scenarios.specs.declared.scenario.Scenario.{Scenario}
 use Rattle.drain_report.specs.Uses.{goes_over}
 use Rattle.impact_law.specs.Cuts.{is_cut, with_cut}
-use Rattle.impact_law.specs.Moves.{IsSettledOutcome, moved}
 use Rattle.impact_law.specs.declared.impact.Cut.{Cut}
 use Rattle.impact_law.specs.declared.impact.Cut.TheVariants.{Link, Router}
 use Rattle.impact_law.specs.declared.impact.CutRow.{CutRow}
@@ -37,7 +35,7 @@ route_over cut (Some h) = goes_over cut h.path
 abbrev pub passes_over : Cut → Outcome → ℕ → Bool
 passes_over cut outcome r = if is_cut cut r then false else route_over cut (route_at outcome r)
 
--- whatever settles under the cut of each row, it moves so many
-abbrev pub AreMoves : PlainNet → PlainPolicy → PlainConfig → Failures → PlainPrefix → Outcome → List CutRow → List ℕ → Type 0
-AreMoves net policy config f p before rows moves =
-    (after : Cut → Outcome) → ((cut : Cut) → IsSettledOutcome net policy config (with_cut cut f) p (after cut)) → moves ≡ map (λ (row : CutRow). moved net row.cut before (after row.cut)) rows
+-- the scenario is another one with a cut besides
+pub record IsWithCut (before : Scenario) (cut : Cut) (after : Scenario) : Type 0 where
+  pub prefix : after.prefix ≡ before.prefix
+  pub failures : AreSameFailures (failures_of after) (with_cut cut (failures_of before))

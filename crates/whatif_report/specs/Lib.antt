@@ -1,2 +1,5 @@
+pub mod Changing
 pub mod Cutting
+pub mod Moves
 pub mod Settling
+pub mod Shifting

@@ -5,15 +5,12 @@ ghost use Rattle.net_base.specs.Network.{joins};
 ghost use Rattle.net_base.specs.Sets.{holds};
 ghost use Rattle.net_base.specs.declared.limits.TheConstants.{LOCATIONS};
 ghost use Rattle.policy_base.specs.Meaning.{some_step};
-ghost use Rattle.scenarios.specs.Scenarios.{failures_of};
-ghost use Rattle.scenarios.specs.Surviving.{AreSurvivors};
 ghost use Rattle.drain_report.specs.Uses.{goes_over as is_over};
-ghost use Rattle.impact_law.specs.Cuts.{with_cut as cut_besides};
-ghost use Rattle.whatif_report.specs.Cutting.{AreSameFailures, IsCutOf};
+ghost use Rattle.whatif_report.specs.Cutting.{IsCutOf, IsWithCut};
 
 use impact_law::Cut;
 use net_base::{Loc, Net, known_net};
-use scenarios::{Scenario, Survivors};
+use scenarios::Scenario;
 use std::alloc::{AllocError, Global};
 
 /// A scenario where a link is dead, too.
@@ -40,6 +37,7 @@ fn with_dead(alloc: Global, scenario: &Scenario, at: Loc) -> Result<Scenario, Al
     ensures dead { IfOk result (λ s. (l : ℕ) → holds s.dead l ≡ (holds scenario.now.dead l || l == at)) }
     ensures links { IfOk result (λ s. s.dead_links ≡ scenario.now.dead_links) }
     ensures silent { IfOk result (λ s. s.silent ≡ scenario.now.silent) }
+    ensures prefix { IfOk result (λ s. s.prefix ≡ scenario.now.prefix) }
 {
     Ok(Scenario {
         prefix: scenario.prefix,
@@ -50,14 +48,14 @@ fn with_dead(alloc: Global, scenario: &Scenario, at: Loc) -> Result<Scenario, Al
 }
 
 /// A scenario where a cut comes besides.
-fn with_cut(
+pub(crate) fn with_cut(
     alloc: Global,
     net: &Net,
     scenario: &Scenario,
     cut: &Cut,
 ) -> Result<Scenario, AllocError>
     requires { IsCutOf net.now cut.now }
-    ensures { IfOk result (λ s. AreSameFailures (failures_of s) (cut_besides cut.now (failures_of scenario.now))) }
+    ensures { IfOk result (IsWithCut scenario.now cut.now) }
 {
     known_net(net);
     match cut {
@@ -69,22 +67,8 @@ fn with_cut(
     }
 }
 
-/// What a scenario and a cut besides leave of a network.
-pub(crate) fn survivors_of(
-    alloc: Global,
-    net: &Net,
-    scenario: &Scenario,
-    cut: &Cut,
-) -> Result<Survivors, AllocError>
-    requires { IsCutOf net.now cut.now }
-    ensures { IfOk result (AreSurvivors net.now (cut_besides cut.now (failures_of scenario.now))) }
-{
-    let scenario = with_cut(alloc, net, scenario, cut)?;
-    Ok(Survivors::new(net, &scenario))
-}
-
 /// Whether two locations are the ends of a link, either first.
-fn joined(a: Loc, b: Loc, one: Loc, other: Loc) -> bool
+pub(crate) fn joined(a: Loc, b: Loc, one: Loc, other: Loc) -> bool
     ensures { result ≡ joins a b (one, other) }
 {
     (a == one && b == other) || (a == other && b == one)

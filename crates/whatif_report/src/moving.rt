@@ -1,20 +1,23 @@
 //! Which routers a cut moves.
-ghost use Rattle.std.specs.Prelude.{◌≡◌, false, ◌&&◌, IsTrue, option_map};
+ghost use Rattle.std.specs.Prelude.{◌≡◌, ◌<◌, ℕ, false, ◌&&◌, IsTrue, length, option_map};
+ghost use Rattle.std.specs.List.{count_by};
+ghost use Rattle.net_base.specs.Locations.{numbers_below};
+ghost use Rattle.net_base.specs.Sets.{holds};
 ghost use Rattle.outcome_base.specs.Outcomes.{route_at};
 ghost use Rattle.scenarios.specs.Tests.{same_route as is_same};
 ghost use Rattle.drain_report.specs.Uses.{IsOffRoutes};
 ghost use Rattle.impact_law.specs.Cuts.{is_cut as is_cut_by};
-ghost use Rattle.impact_law.specs.Moves.{is_moved as is_moved_by, moved, same_held as is_same_held};
 ghost use Rattle.whatif_report.specs.Cutting.{passes_over};
+ghost use Rattle.whatif_report.specs.Moves.{is_moved as is_moved_by, same_held as is_same_held};
 
 use crate::cut::goes_over;
 use config_base::Route;
 use impact_law::Cut;
-use net_base::{Loc, Net, known_net};
+use net_base::{Loc, LocSet, Net, known_net};
 use scenarios::Outcome;
 
 /// Whether a router is cut.
-fn is_cut(cut: &Cut, router: Loc) -> bool
+pub(crate) fn is_cut(cut: &Cut, router: Loc) -> bool
     ensures { result ≡ is_cut_by cut.now router }
 {
     match cut {
@@ -73,14 +76,29 @@ fn is_moved(cut: &Cut, before: &Outcome, after: &Outcome, router: Loc) -> bool
     !is_cut(cut, router) && !same_held(before.route_at(router), after.route_at(router))
 }
 
-/// How many routers that aren't cut hold another route after.
-pub(crate) fn count_moved(net: &Net, cut: &Cut, before: &Outcome, after: &Outcome) -> u32
-    ensures { result ≡ moved net.now cut.now before.now.routes after.now.routes }
+/// The routers that aren't cut and hold another route after.
+pub(crate) fn moved_routers(net: &Net, cut: &Cut, before: &Outcome, after: &Outcome) -> LocSet
+    ensures { (r : ℕ) → r < length net.now.routers → holds result r ≡ is_moved_by cut.now before.now.routes after.now.routes r }
+{
+    known_net(net);
+    let mut moved = LocSet::new();
+    for place in 0..net.routers().len() as u16 {
+        let router = Loc::new(place);
+        if is_moved(cut, before, after, router) {
+            moved.insert(router);
+        }
+    }
+    moved
+}
+
+/// How many routers are in a set.
+pub(crate) fn count_routers(net: &Net, set: &LocSet) -> u32
+    ensures { result ≡ count_by (holds set.now) (numbers_below (length net.now.routers)) }
 {
     known_net(net);
     let mut count = 0;
     for place in 0..net.routers().len() as u16 {
-        if is_moved(cut, before, after, Loc::new(place)) {
+        if set.holds(Loc::new(place)) {
             count += 1;
         }
     }

@@ -1,64 +1,118 @@
 //! A network that has settled under a scenario.
-use crate::cut::survivors_of;
-use crate::moving::{count_moved, is_off_routes};
+use crate::cut::with_cut;
+use crate::links::touched_links;
+use crate::moving::{count_routers, is_off_routes, moved_routers};
+use crate::shifting::Change;
 use evidence_base::Evidence;
-use impact_law::Cut;
+use impact_law::{Cut, Moves};
 use input_output::NoMemory;
-use net_base::{Net, known_net, known_prefix};
-use policy_base::Policy;
-use scenarios::{Outcome, Scenario};
+use net_base::{LocSet, known_net, known_prefix};
+use scenarios::{Scenario, Situation, Survivors};
 use settled_outcome::settle_left;
 use std::alloc::Global;
 
-/// A network with evidence for its configuration, a scenario, and the outcome to which it settles.
+/// The outcome to which a network settles under a scenario, with the evidence for its configuration.
 #[derive(Drop)]
-pub(crate) struct SettledNet<'a> {
-    pub(crate) net: &'a Net,
-    pub(crate) policy: &'a Policy,
-    pub(crate) evidence: &'a Evidence,
-    pub(crate) scenario: &'a Scenario,
-    pub(crate) outcome: Outcome,
+pub(crate) struct SettledNet<'t, 's> {
+    pub(crate) situation: &'t Situation<'s>,
+    pub(crate) evidence: &'t Evidence,
 }
 
-impl SettledNet<'_> {
-    ghost use Rattle.std.specs.Prelude.{◌≡◌, List, Option, IfOk};
-    ghost use Rattle.policy_base.specs.Policies.{IsPolicyOf, policy_of};
-    ghost use Rattle.config_base.specs.Configs.{PlainConfig};
-    ghost use Rattle.config_base.specs.declared.route.Route.{Route};
-    ghost use Rattle.evidence_law.specs.Passes.{Passes};
-    ghost use Rattle.scenarios.specs.Scenarios.{failures_of};
-    ghost use Rattle.impact_law.specs.Cuts.{with_cut};
-    ghost use Rattle.impact_law.specs.Moves.{IsSettledOutcome, moved};
-    ghost use Rattle.whatif_report.specs.Cutting.{IsCutOf};
-    ghost use Rattle.whatif_report.specs.Settling.{HasSettled};
+impl SettledNet<'_, '_> {
+    ghost use Rattle.std.specs.Prelude.{◌≡◌, IfOk};
+    ghost use Rattle.drain_report.specs.Uses.{IsOffRoutes};
+    ghost use Rattle.whatif_report.specs.Changing.{AreMoved, IsAfter};
+    ghost use Rattle.whatif_report.specs.Cutting.{IsCutOf, IsWithCut};
+    ghost use Rattle.whatif_report.specs.Settling.{IsSettledNet, MovesRight, moves_in};
 
-    /// How many routers hold another route where this network settles with a cut besides. A cut over which no other router's route goes
-    /// moves none, so nothing is settled for it.
-    pub(crate) fn moves(&self, alloc: Global, cut: &Cut) -> Result<u32, NoMemory>
-        requires fits { IsPolicyOf self.now.net.now (policy_of self.now.policy.now) }
-        requires passes { (config : PlainConfig) × Passes self.now.net.now (policy_of self.now.policy.now) config self.now.evidence.now.cases }
-        requires settled { HasSettled self.now }
-        requires cut { IsCutOf self.now.net.now cut.now }
-        ensures { IfOk result
-            (λ moves. (config : PlainConfig) → Passes self.now.net.now (policy_of self.now.policy.now) config self.now.evidence.now.cases
-            → (after : List (Option Route))
-            → IsSettledOutcome self.now.net.now (policy_of self.now.policy.now) config (with_cut cut.now (failures_of self.now.scenario.now)) self.now.scenario.now.prefix after
-            → moves ≡ moved self.now.net.now cut.now self.now.outcome.routes after) }
+    /// Whom a cut moves, if this is the outcome after it and these routers hold another route there.
+    fn moves_to(
+        &self,
+        alloc: Global,
+        cut: &Cut,
+        after: &Situation<'_>,
+        moved: &LocSet,
+    ) -> Result<Moves, NoMemory>
+        requires settled { IsSettledNet self.now }
+        requires after { IsAfter self.now.situation.now after.now cut.now }
+        requires moved { AreMoved self.now.situation.now cut.now after.now.outcome.now.routes moved.now }
+        ensures { IfOk result (λ moves. moves ≡ moves_in self.now.situation.now cut.now after.now.outcome.now.routes) }
     {
-        known_net(self.net);
-        known_prefix(self.scenario.prefix);
-        if is_off_routes(self.net, &self.outcome, cut) {
-            return Ok(0);
-        }
-        let survivors = survivors_of(alloc, self.net, self.scenario, cut)?;
-        let after = settle_left(
+        let before = self.situation;
+        known_net(before.net);
+        let links = touched_links(alloc, before.net, cut, moved)?;
+        let change = Change {
+            before,
+            after,
+            cut: *cut,
+        };
+        let shifted = change.shifted(links.as_slice());
+        let routes = count_routers(before.net, moved);
+        let sets = count_routers(before.net, &shifted);
+        Ok(Moves { routes, sets })
+    }
+
+    /// Whom a cut moves over which no other router's route goes: nothing settles anew.
+    fn moves_off_routes(
+        &self,
+        alloc: Global,
+        cut: &Cut,
+        scenario: &Scenario,
+    ) -> Result<Moves, NoMemory>
+        requires settled { IsSettledNet self.now }
+        requires scenario { IsWithCut self.now.situation.now.scenario.now cut.now scenario.now }
+        requires off { IsOffRoutes self.now.situation.now.net.now self.now.situation.now.outcome.now.routes cut.now }
+        ensures { IfOk result (MovesRight self.now.situation.now cut.now) }
+    {
+        let before = self.situation;
+        known_net(before.net);
+        known_prefix(before.scenario.prefix);
+        let after = Situation::new(
+            before.net,
+            before.policy,
+            before.config,
+            scenario,
+            before.outcome,
+        );
+        let nobody = LocSet::new();
+        self.moves_to(alloc, cut, &after, &nobody)
+    }
+
+    /// Whom any cut moves: the network settles with it.
+    fn moves_anew(&self, alloc: Global, cut: &Cut, scenario: &Scenario) -> Result<Moves, NoMemory>
+        requires settled { IsSettledNet self.now }
+        requires scenario { IsWithCut self.now.situation.now.scenario.now cut.now scenario.now }
+        ensures { IfOk result (MovesRight self.now.situation.now cut.now) }
+    {
+        let before = self.situation;
+        known_net(before.net);
+        known_prefix(before.scenario.prefix);
+        let survivors = Survivors::new(before.net, scenario);
+        let outcome = settle_left(
             alloc,
-            self.net,
-            self.policy,
+            before.net,
+            before.policy,
             self.evidence,
             &survivors,
-            self.scenario.prefix,
+            before.scenario.prefix,
         )?;
-        Ok(count_moved(self.net, cut, &self.outcome, &after))
+        let after = Situation::new(before.net, before.policy, before.config, scenario, &outcome);
+        let moved = moved_routers(before.net, cut, before.outcome, &outcome);
+        self.moves_to(alloc, cut, &after, &moved)
+    }
+
+    /// Whom a cut moves where it comes besides.
+    pub(crate) fn moves(&self, alloc: Global, cut: &Cut) -> Result<Moves, NoMemory>
+        requires settled { IsSettledNet self.now }
+        requires cut { IsCutOf self.now.situation.now.net.now cut.now }
+        ensures { IfOk result (MovesRight self.now.situation.now cut.now) }
+    {
+        let before = self.situation;
+        let scenario = with_cut(alloc, before.net, before.scenario, cut)?;
+        if is_off_routes(before.net, before.outcome, cut) {
+            self.moves_off_routes(alloc, cut, &scenario)
+        } else {
+            self.moves_anew(alloc, cut, &scenario)
+        }
     }
 }

@@ -63,12 +63,12 @@ export function promisesOf(text) {
   return { cases, uncarried, open, last };
 }
 
-/** A link or a router that is cut: what it is called, how many others move, and whose best rank changes. */
+/** A link or a router that is cut: what it is called, how many others move or shift, and whose best rank changes. */
 function cutOf(words) {
   const isLink = words[1] === "link", ends = words.slice(2, isLink ? 4 : 3);
   return {
     kind: words[1], id: isLink ? linkKey(...ends) : ends[0], name: ends.join("–"), moves: Number(words[ends.length + 3] ?? 0),
-    lost: [], worse: [],
+    shifts: Number(words[ends.length + 5] ?? 0), lost: [], worse: [],
   };
 }
 

@@ -20,7 +20,7 @@ async function askCuts(policy) {
   show();
 }
 
-/** Whether a cut changes something for others than the router that is cut. */
+/** Whether a cut changes a route or a rank of others than the router that is cut. */
 const matters = (cut) => cut.moves + cut.lost.length + cut.worse.length > 0;
 const weight = (cut) => cut.moves + 3 * cut.lost.length;
 const worst = (one, other) => other.lost.length - one.lost.length
@@ -58,14 +58,17 @@ function list() {
   ];
 }
 
-/** What the failure of a router or a link would change, in a sentence. */
+const shiftsSaid = (cut) => (cut?.shifts
+  ? ` If routers spread packets, ${many(cut.shifts, "other router sends", "other routers send")} to other neighbours than before.` : "");
+
+/** What the failure of a router or a link would change, in a sentence or two. */
 function told(id) {
   const cut = held.whatif?.cuts.find((each) => each.id === id);
   if (!held.whatif) return "";
-  if (!cut || !matters(cut)) return "Its failure changes nothing for others.";
+  if (!cut || !matters(cut)) return `Its failure changes ${cut?.shifts ? "no route of others" : "nothing for others"}.${shiftsSaid(cut)}`;
   const lost = cut.lost.length ? `; without any path: ${cut.lost.join(", ")}` : "";
   const worse = cut.worse.length ? `; other best rank: ${ranksSaid(cut.worse)}` : "";
-  return `If it fails: ${many(cut.moves, "other router moves", "other routers move")}${lost}${worse}.`;
+  return `If it fails: ${many(cut.moves, "other router moves", "other routers move")}${lost}${worse}.${shiftsSaid(cut)}`;
 }
 
 export const whatif = {

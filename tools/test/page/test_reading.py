@@ -18,7 +18,7 @@ FOUND = """import('./read.js').then(m => %s.map(([reader, text]) => {
       sources: [...now.routers.map((s) => [s.name, '', s.rank]), ...now.sessions.map((s) => [s.router, s.peer, s.rank])],
       transit: now.transit, covered: r.cases.filter((c) => c.isCovered).map((c) => c.number), unused: now.unused,
       uncarried: r.uncarried, open: r.open.map((o) => [o.pattern, o.prefix, o.number]), last: r.last }),
-    cuts: () => ({ cut: cut && [cut.kind, cut.id, cut.moves], lost: cut?.lost, worse: cut?.worse.map(({ who, rank }) => [who, rank]), last: r.last }),
+    cuts: () => ({ cut: cut && [cut.kind, cut.id, cut.moves, cut.shifts], lost: cut?.lost, worse: cut?.worse.map(({ who, rank }) => [who, rank]), last: r.last }),
     free: () => ({ free: [...r.free], last: r.last }),
     spread: () => ({ routers: [...r.routers].map(([name, s]) => [name, ...sends(s)]), sessions: r.sessions.map((s) => [s.router, s.peer, ...sends(s)]),
       idle: [...r.idle], last: r.last }),

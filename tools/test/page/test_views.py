@@ -63,7 +63,7 @@ class OtherViews(Paged):
         served, policy = self.open(*ABILENE), text_of(ABILENE[1])
         self.click("[data-mode=whatif]")
         told = self.program(served, "whatif", policy, "203.0.113.0/24")
-        moves = {(*words[2:-2],): words[-1] for words in map(str.split, told.splitlines()) if words[0] == "cut"}
+        moves = {(*words[2:-4],): words[-3] for words in map(str.split, told.splitlines()) if words[0] == "cut"}
         page = dict(self.browser.eval("propane.view().held.whatif.cuts.map(c=>[c.id,c.moves])"))
         self.assertEqual({"~".join(sorted(names)): int(count) for names, count in moves.items()}, page)
         self.assertEqual(self.said('[data-link="SNVA~West"] .n-count'), "11")

@@ -1,6 +1,6 @@
 """What `drain`, `settle` and `whatif` say of a third text."""
 from runs import ANY_PATH, EXITS, DONE, BAD_INPUT
-from runs.networks import TRIANGLE, TWO_EXITS, TWO_ROUTERS
+from runs.networks import DIAMOND, TRIANGLE, TWO_EXITS, TWO_ROUTERS
 
 ROWS = [
     ("nothing has failed: the way round carries nothing", ["drain"],
@@ -59,14 +59,14 @@ prefix 198.51.100.0/24
 class 1
 base router R1 rank 2
 base router R2 rank 2
-cut link R1 R2 moves 1
+cut link R1 R2 moves 1 shifts 1
 router R1 none
-cut link R2 P2 moves 2
+cut link R2 P2 moves 2 shifts 2
 router R1 none
 router R2 none
-cut router R1 moves 0
+cut router R1 moves 0 shifts 0
 router R1 none
-cut router R2 moves 1
+cut router R2 moves 1 shifts 1
 router R1 none
 router R2 none
 cuts 5 changed 4
@@ -78,11 +78,11 @@ prefix 10.0.1.0/24
 class 1
 base router B rank 1
 base router C none
-cut link A B moves 1
+cut link A B moves 1 shifts 1
 router B none
-cut router A moves 1
+cut router A moves 1 shifts 1
 router B none
-cut router B moves 0
+cut router B moves 0 shifts 0
 router B none
 cuts 3 changed 3
 """),
@@ -93,15 +93,44 @@ prefix 10.0.1.0/24
 class 1
 base router B rank 1
 base router C rank 1
-cut link A B moves 1
-cut link A C moves 1
-cut router A moves 2
+cut link A B moves 1 shifts 1
+cut link A C moves 1 shifts 1
+cut router A moves 2 shifts 2
 router B none
 router C none
-cut router B moves 0
+cut router B moves 0 shifts 0
 router B none
-cut router C moves 0
+cut router C moves 0 shifts 0
 router C none
 cuts 6 changed 5
+"""),
+    ("cuts that move no route, and take a next hop", ["whatif"],
+     [DIAMOND, "originate 10.0.1.0/24 at D; true => any;", '{"prefix":"10.0.1.0/24","dead":[],"dead_links":[],"silent":[]}'],
+     DONE, """\
+prefix 10.0.1.0/24
+class 1
+base router A rank 1
+base router B rank 1
+base router C rank 1
+base session C P1 rank 1
+cut link D A moves 2 shifts 2
+cut link D B moves 1 shifts 2
+cut link A C moves 1 shifts 1
+cut link B C moves 0 shifts 1
+cut link C P1 moves 0 shifts 0
+session C P1 none
+cut router D moves 3 shifts 3
+router A none
+router B none
+router C none
+session C P1 none
+cut router A moves 1 shifts 1
+router A none
+cut router B moves 0 shifts 1
+router B none
+cut router C moves 0 shifts 0
+router C none
+session C P1 none
+cuts 9 changed 9
 """),
 ]

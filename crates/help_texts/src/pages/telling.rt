@@ -68,7 +68,8 @@ pub const IMPACT: &str = "usage: propane impact TOPO POLICY PREFIX
 Tells for each source that the policy claims for the prefix its best rank
 without failures; and for each single dead link and router that changes
 something the sources that then get another rank, and that rank, or none where
-no allowed path survives. PREFIX is written as in a policy: 10.0.1.0/24.
+no allowed path survives. This speaks of paths: the ranks are the same where
+routers spread packets. PREFIX is written as in a policy: 10.0.1.0/24.
 
 reads
   TOPO    a topology text: routers, peers and links
@@ -194,8 +195,9 @@ pub const WHATIF: &str = "usage: propane whatif TOPO POLICY SCENARIO
 Tells what one more failure changes, besides those of the scenario: for each
 source that the policy claims for its prefix the best rank now; and for each
 link and router that lives, and whose failure changes something, how many other
-routers then hold another route, and the sources with another best rank. This
-speaks of routes. Where routers spread packets the ranks are the same.
+routers then hold another route (moves), how many have another multipath set
+(shifts), and the sources with another best rank. Ranks and moves speak of
+routes; shifts speaks of packets that routers spread, as multipath does.
 
 reads
   TOPO      a topology text: routers, peers and links
