@@ -14,6 +14,12 @@ EXAMPLE = os.path.join(TOP, "examples", "two-exits")
 TWO = [os.path.join(EXAMPLE, "topology.json"), os.path.join(EXAMPLE, "policy.propane")]
 
 
+def hear_all():
+    """A process that begins here hears each signal, also where these tests run without, as below nohup."""
+    for number in signal.SIGTERM, signal.SIGINT, signal.SIGHUP:
+        signal.signal(number, signal.SIG_DFL)
+
+
 class Output(unittest.TestCase):
     def setUp(self):
         room = tempfile.TemporaryDirectory(prefix="propane test ")
@@ -89,7 +95,8 @@ class Output(unittest.TestCase):
         program = self.stub("echo half; echo $$ > pid; exec sleep 60")
         for number in signal.SIGTERM, signal.SIGINT, signal.SIGHUP:
             with self.subTest(number):
-                with subprocess.Popen([RUN, program, "--output", self.file, "x"], cwd=self.folder, stdin=subprocess.DEVNULL) as running:
+                with subprocess.Popen([RUN, program, "--output", self.file, "x"], cwd=self.folder, stdin=subprocess.DEVNULL,
+                                      preexec_fn=hear_all) as running:
                     pid = os.path.join(self.folder, "pid")
                     ends = time.monotonic() + 60
                     while not (os.path.exists(pid) and os.path.getsize(pid)) and time.monotonic() < ends:
