@@ -8,7 +8,7 @@ from collections.abc import Iterator
 
 from texts.faults import Fault
 
-from .maps import Entry, Row, Tag
+from .maps import Entry, Row, Tag, parted
 from .plans import USED, Plan, Session, Ties
 
 ENDING = ".bird.conf"
@@ -119,11 +119,8 @@ def bird_text(plan: Plan) -> str:
 
 
 def list_text(number: int, rows: list[Row]) -> str:
-    """Two sets say a list whose `deny` rows come first, as those of a configuration's maps do."""
-    words = [row.word for row in rows]
-    if words != sorted(words):
-        raise Fault(f"maps: list {number} denies behind what it permits: these aren't the maps of a configuration")
-    denied, permitted = ([pattern(row) for row in rows if row.word == word] for word in ("deny", "permit"))
+    """Two sets say a list: what it permits, and less what."""
+    denied, permitted = (list(map(pattern, part)) for part in parted(number, rows))
     text = f"define list{number} = {set_text(permitted)};\n"
     return text + (f"define list{number}_less = {set_text(denied)};\n" if denied else "")
 

@@ -1,11 +1,11 @@
 """Reads a file of BIRD 2 back: the lists and the maps of a router, as far as the file is as written, and where it isn't."""
 from __future__ import annotations
 
-import itertools
 import re
 from collections.abc import Iterable, Iterator
 
 from .maps import Block, Entry, Lists, Network, Row, RouterMaps, Tag
+from .ordered import lines
 
 NUMBER = r"(\d{1,10})"
 PREFIX = r"(\d+\.\d+\.\d+\.\d+/\d\d?)"
@@ -22,12 +22,6 @@ SEND = re.compile(rf"if {LISTED} && {TAG} ~ bgp_large_community then (?:accept;|
 def read_bird(text: str) -> tuple[Lists, RouterMaps, list[str]]:
     told = [line for _, line in lines(text)]
     return read_lists(told), read_maps(told), []  # a line that isn't read is the first that differs
-
-
-def lines(text: str) -> list[tuple[int, str]]:
-    """The lines that say something, with their numbers: comments and blank ones don't."""
-    found = ((number, line.strip()) for number, line in enumerate(text.splitlines(), 1))
-    return [(number, line) for number, line in found if line and not line.startswith("#")]
 
 
 def read_lists(told: Iterable[str]) -> Lists:
@@ -77,11 +71,3 @@ def read_entry(kind: str, line: str) -> Iterator[Entry]:
 
 def tag(asn: str, value: str) -> Tag:
     return Tag(int(asn), int(value))
-
-
-def bird_differences(text: str, wanted: str) -> Iterator[str]:
-    """The first line that isn't as it would be written: BIRD's order counts, so what follows it says nothing of its own."""
-    for (_, line), (number, other) in itertools.zip_longest(lines(wanted), lines(text), fillvalue=(None, None)):
-        if line != other:
-            yield f"line {number}: {other}: would be: {line or 'the end'}" if number else f"the end: would be: {line}"
-            return

@@ -12,31 +12,35 @@ from texts.statuses import BAD_INPUT, CHECK_FAILS, DONE, READ_FAULT, USAGE
 from texts.topology import Topology
 
 from .addresses import Addresses
-from .folders import BIRD, FRR, Described, Drift, read_back, write_files
+from .folders import DAEMONS, Described, Drift, read_back, write_files
 from .map_reader import read_maps
 from .maps import maps_text
 from .numbering import numbered
 from .plans import Choices, Ties
 
-DAEMONS = {"--bird": BIRD, "--frr": FRR}
 MOST_PATHS = 255  # BIRD takes no more, and FRR doesn't tell 256
 RULES = [rule.value for rule in Ties]
 
 
 @dataclass(frozen=True)
 class Options:
-    """The options: the most next hops, which of several routes is used, and the file of the policy."""
+    """The options: the most next hops, which of several routes is used, the file of the policy, and whether files are staged."""
 
     paths: int = 1
     ties: Ties = Ties.LOWEST
     policy: str | None = None
+    staged: bool = False
 
 
 def options_of(words: list[str]) -> tuple[list[str], Options] | None:
     """The words without the options behind the first, and these; None where an option isn't as it should be."""
     words, found = list(words), Options()
-    while words[1:2] in (["--paths"], ["--ties"], ["--policy"]):
-        option, value = words.pop(1), words.pop(1) if words[1:] else ""
+    while words[1:2] in (["--paths"], ["--ties"], ["--policy"], ["--staged"]):
+        option = words.pop(1)
+        if option == "--staged":
+            found = replace(found, staged=True)
+            continue
+        value = words.pop(1) if words[1:] else ""
         if option == "--policy" and value:
             found = replace(found, policy=value)
         elif option == "--ties" and value in RULES:
@@ -52,7 +56,7 @@ def described(topology_file: str, addresses_file: str, options: Options) -> Desc
     """The network of these files."""
     topology = Topology(read_text(topology_file))
     policy = cut(read_text(options.policy).encode()) if options.policy else None
-    choices = Choices.of(options.paths, options.ties, policy, topology)
+    choices = Choices.of(options.paths, options.ties, policy, topology, options.staged)
     return Described(topology, Addresses(read_text(addresses_file), topology), choices)
 
 
@@ -64,10 +68,10 @@ def run(given: list[str], usage: str) -> int:
         sys.stdout.write(maps_text(network.topology, read_back(network, words[3])))
     elif len(words) == 3 and words[0] == "--number":
         sys.stdout.write(numbered(Topology(read_text(words[2])), words[1]))
-    elif len(words) >= 5 and words[0] in DAEMONS:
+    elif len(words) >= 5 and words[0].startswith("--") and words[0][2:] in DAEMONS:
         topology = Topology(read_text(words[1]))
         maps = read_maps(topology, read_text(words[2]))
-        write_files(DAEMONS[words[0]], described(words[1], words[3], options), maps, words[4], words[5:])
+        write_files(DAEMONS[words[0][2:]], described(words[1], words[3], options), maps, words[4], words[5:])
     else:
         sys.stderr.write(usage)
         return USAGE

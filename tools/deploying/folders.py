@@ -11,11 +11,13 @@ from texts.files import read_text, write_private
 from texts.prefixes import is_prefix
 from texts.topology import Site, Topology
 
-from . import bird, frr
+from . import bird, frr, openbgpd
 from .addresses import Addresses
-from .bird_reader import bird_differences, read_bird
+from .bird_reader import read_bird
 from .frr_reader import frr_differences, read_frr
 from .maps import Lists, Maps, RouterMaps, in_order
+from .openbgpd_reader import read_openbgpd
+from .ordered import differences
 from .plans import Choices, Plan, plan_of
 
 
@@ -46,8 +48,10 @@ class Described:
         return plan_of(self.topology, maps, self.addresses, self.choices, router)
 
 
-BIRD = Daemon(bird.ENDING, bird.bird_text, read_bird, bird_differences)
+BIRD = Daemon(bird.ENDING, bird.bird_text, read_bird, differences)
 FRR = Daemon(frr.ENDING, frr.frr_text, read_frr, frr_differences)
+OPENBGPD = Daemon(openbgpd.ENDING, openbgpd.openbgpd_text, read_openbgpd, differences)
+DAEMONS = {"bird": BIRD, "frr": FRR, "openbgpd": OPENBGPD}
 
 
 def write_files(daemon: Daemon, network: Described, maps: Maps, folder: str, names: Sequence[str]) -> None:
@@ -82,7 +86,7 @@ def read_back(network: Described, folder: str) -> Maps:
 
 
 def file_of(folder: str, router: str) -> tuple[Daemon, str, str]:
-    found = [(daemon, router + daemon.ending) for daemon in (BIRD, FRR) if os.path.exists(os.path.join(folder, router + daemon.ending))]
+    found = [(daemon, router + daemon.ending) for daemon in DAEMONS.values() if os.path.exists(os.path.join(folder, router + daemon.ending))]
     if len(found) != 1:
         raise Fault(f"{folder}: {'two files' if found else 'no file'} of the router {router}")
     daemon, name = found[0]

@@ -1,9 +1,11 @@
 """The file of a plan for FRR, as vtysh loads it: line by line, so the maps of a session stand before it, and what it announces last.
 
-docs/DEPLOY.md says what each line is for.
+In a staged file the names of maps and of their lists end in a sum of what they all say. So maps of another file can stand beside them,
+unused until each is whole, and a session goes over to its new map by one line. docs/DEPLOY.md says what each line is for.
 """
 from __future__ import annotations
 
+import hashlib
 from collections.abc import Iterator
 
 from texts.faults import Fault
@@ -19,7 +21,10 @@ OWN_NUMBERS = "! The AS numbers by which the network is known. A path of a peer 
 ORIGINS = "! Which AS numbers may originate a prefix. While the cache doesn't answer, nothing is known to be wrong."
 DROPPED = "! What these networks don't deliver is dropped, and isn't sent back outside."
 WASH = (" set community none", " set extcommunity none", " set metric 0", " set origin igp")
-ROUTER = (" bgp ebgp-requires-policy", " no bgp suppress-duplicates", " no bgp default ipv4-unicast", " bgp graceful-restart-disable")
+ASKS_POLICY = " bgp ebgp-requires-policy"
+DUPLICATES = " no bgp suppress-duplicates"
+ROUTER = (" no bgp default ipv4-unicast", " bgp graceful-restart-disable")
+UNTIMED = "bgp route-map delay-timer 0"  # nothing is judged anew while a map is being written
 LOWEST_FIRST = " bgp bestpath compare-routerid"
 UNCHECKED = " no bgp network import-check"
 RELAXED = " bgp bestpath as-path multipath-relax"
@@ -27,31 +32,43 @@ UNGROUPED = "no zebra nexthop kernel enable"
 
 
 def frr_text(plan: Plan) -> str:
+    ending = mark(plan)
     parts = [[f"! {plan.site.name}, AS {plan.site.asn}: the route maps of the network's policy, written by tools/deploy.",
-              "frr defaults traditional", *([UNGROUPED] if plan.paths > 1 else [])]]
-    if plan.originated():
-        parts.append([DROPPED, *(f"ip route {prefix} blackhole 254" for prefix in plan.originated())])
-    parts += [list_lines(number, rows) for number, rows in sorted(plan.lists.items())]
+              "frr defaults traditional", *([UNGROUPED] if plan.paths > 1 else []), *([UNTIMED] if plan.staged else [])]]
+    parts += judging_parts(plan, ending)
+    parts.append([*(f"! {line}" for line in USED[plan.ties]), *router_lines(plan, ending)])
+    return "\n!\n".join("\n".join(part) for part in parts) + "\n"
+
+
+def mark(plan: Plan) -> str:
+    """How the names of a file's lists and maps end: in a sum of all that these say, behind a colon, which no other name has. Or not at all."""
+    said = "\n".join(line for part in judging_parts(plan, "") for line in part) if plan.staged else ""
+    return f":{hashlib.sha256(said.encode()).hexdigest()[:8]}" if plan.staged else ""
+
+
+def judging_parts(plan: Plan, ending: str) -> list[list[str]]:
+    """All by which routes are judged, in an order in which nothing is named before it's there."""
+    parts = [[DROPPED, *(f"ip route {prefix} blackhole 254" for prefix in plan.originated())]] if plan.originated() else []
+    parts += [list_lines(number, rows, ending) for number, rows in sorted(plan.lists.items())]
     parts.append([OWN_NUMBERS, *number_lines(plan.own_numbers)])
     parts.append([f"bgp large-community-list standard {tag_name(tag)} seq 5 permit {tag}" for tag in matched(plan)])
-    parts += [network_lines(network) for network in plan.networks]
+    parts += [network_lines(network, ending) for network in plan.networks]
     parts.append([f"ip prefix-list longer-{longest} seq 5 permit 0.0.0.0/0 ge {longest + 1}" for longest in longest_taken(plan)])
     if plan.rpki:
         parts.append([ORIGINS, "rpki", f" rpki cache {plan.rpki.address} {plan.rpki.port} preference 1", "exit"])
     for session in plan.sessions:
-        parts += map_parts(session, plan)
-    parts.append([*(f"! {line}" for line in USED[plan.ties]), *router_lines(plan)])
-    return "\n!\n".join("\n".join(part) for part in parts if part) + "\n"
+        parts += map_parts(session, plan, ending)
+    return [part for part in parts if part]
 
 
-def list_lines(number: int, rows: list[Row]) -> list[str]:
+def list_lines(number: int, rows: list[Row], ending: str) -> list[str]:
     """FRR keeps no row twice in a list: one that stands before already gets a list of its own, for who reads the file back."""
     seen: set[Row] = set()
     lines = []
     for place, row in enumerate(rows, 1):
         again = f"-again-{place}" if row in seen else ""
         seen.add(row)
-        lines.append(f"ip prefix-list list-{number}{again} seq {5 * place} {row.word} {row.pattern()}")
+        lines.append(f"ip prefix-list list-{number}{again}{ending} seq {5 * place} {row.word} {row.pattern()}")
     return lines
 
 
@@ -69,8 +86,8 @@ def tag_name(tag: Tag) -> str:
     return f"tag-{tag.asn}-{tag.value}"
 
 
-def network_lines(network: Network) -> list[str]:
-    return [f"route-map own-{network.prefix} permit 10", f" match ip address prefix-list list-{network.number}",
+def network_lines(network: Network, ending: str) -> list[str]:
+    return [f"route-map own-{network.prefix}{ending} permit 10", f" match ip address prefix-list list-{network.number}{ending}",
             f" set large-community {network.tag}", "exit"]
 
 
@@ -79,9 +96,9 @@ def longest_taken(plan: Plan) -> list[int]:
     return sorted({session.wire.longest for session in plan.sessions if session.wire.longest})
 
 
-def refusals(session: Session, plan: Plan) -> Iterator[list[str]]:
+def refusals(session: Session, plan: Plan, ending: str) -> Iterator[list[str]]:
     """The entries in front of those of the maps, which only refuse."""
-    name, wire = session.neighbour.name, session.wire
+    name, wire = session.neighbour.name + ending, session.wire
     if wire.shut:
         yield from ([f"route-map {word}-{name} deny 1", "exit"] for word in ("in", "out"))
     if session.neighbour.is_peer:
@@ -92,20 +109,20 @@ def refusals(session: Session, plan: Plan) -> Iterator[list[str]]:
             yield [f"route-map in-{name} deny 7", " match rpki invalid", "exit"]
 
 
-def map_parts(session: Session, plan: Plan) -> Iterator[list[str]]:
+def map_parts(session: Session, plan: Plan, ending: str) -> Iterator[list[str]]:
     """The two route maps of a session, an entry a part. Each ends in a refusal."""
-    name, is_peer, block = session.neighbour.name, session.neighbour.is_peer, plan.block(session)
-    yield from refusals(session, plan)
+    name, is_peer, block = session.neighbour.name + ending, session.neighbour.is_peer, plan.block(session)
+    yield from refusals(session, plan, ending)
     for word, entries, more in (("in", block.takes, WASH if is_peer else ()), ("out", block.sends, ())):
         if 10 * len(entries) >= LAST:
-            raise Fault(f"maps: the {word} entries of {name}: FRR numbers entries up to {LAST}, so there may be {LAST // 10}")
+            raise Fault(f"maps: the {word} entries of {session.neighbour.name}: FRR numbers entries up to {LAST}, so there may be {LAST // 10}")
         for place, entry in enumerate(entries, 1):
-            yield [f"route-map {word}-{name} permit {10 * place}", *entry_lines(entry), *more, "exit"]
+            yield [f"route-map {word}-{name} permit {10 * place}", *entry_lines(entry, ending), *more, "exit"]
         yield [f"route-map {word}-{name} deny {LAST}", "exit"]
 
 
-def entry_lines(entry: Entry) -> Iterator[str]:
-    yield f" match ip address prefix-list list-{entry.number}"
+def entry_lines(entry: Entry, ending: str) -> Iterator[str]:
+    yield f" match ip address prefix-list list-{entry.number}{ending}"
     if entry.match:
         yield f" match large-community {tag_name(entry.match)}"
     if entry.put:
@@ -113,17 +130,27 @@ def entry_lines(entry: Entry) -> Iterator[str]:
         yield f" set local-preference {entry.preference}"
 
 
-def router_lines(plan: Plan) -> Iterator[str]:
-    yield from (f"router bgp {plan.site.asn}", f" bgp router-id {plan.site.id}", *ROUTER,
+def router_lines(plan: Plan, ending: str) -> Iterator[str]:
+    yield from (f"router bgp {plan.site.asn}", f" bgp router-id {plan.site.id}", ASKS_POLICY, *([] if plan.staged else [DUPLICATES]), *ROUTER,
                 *([LOWEST_FIRST] if plan.ties is Ties.LOWEST else []), UNCHECKED, *([RELAXED] if plan.paths > 1 else []))
     for session in plan.sessions:
         yield from neighbour_lines(session, plan)
     yield from (" !", " address-family ipv4 unicast")
-    yield from (f"  network {network.prefix} route-map own-{network.prefix}" for network in plan.networks)
-    yield from (f"  network {prefix}" for prefix in plan.unsent)
+    yield from announced_lines(plan, ending)
     for session in plan.sessions:
-        yield from family_lines(session)
+        yield from family_lines(session, ending)
     yield from (f"  maximum-paths {plan.paths}", " exit-address-family", "exit")
+
+
+def announced_lines(plan: Plan, ending: str) -> Iterator[str]:
+    """What the router originates."""
+    yield from (f"  network {network.prefix} route-map own-{network.prefix}{ending}" for network in plan.networks)
+    yield from (f"  network {prefix}" for prefix in plan.unsent)
+
+
+def used_lines(session: Session, ending: str) -> Iterator[str]:
+    """By which maps a session takes and sends."""
+    yield from (f"  neighbor {place_of(session)} route-map {word}-{session.neighbour.name}{ending} {word}" for word in ("in", "out"))
 
 
 def neighbour_lines(session: Session, plan: Plan) -> Iterator[str]:
@@ -150,9 +177,9 @@ def neighbour_lines(session: Session, plan: Plan) -> Iterator[str]:
     yield f" neighbor {at} timers connect 5"
 
 
-def family_lines(session: Session) -> Iterator[str]:
+def family_lines(session: Session, ending: str) -> Iterator[str]:
     """What is announced comes last, when all else of the session is said."""
-    at, name = place_of(session), session.neighbour.name
+    at = place_of(session)
     yield f"  neighbor {at} activate"
     yield f"  neighbor {at} next-hop-self"
     if session.neighbour.is_peer:
@@ -162,8 +189,9 @@ def family_lines(session: Session) -> Iterator[str]:
         yield f"  neighbor {at} send-community large"
     if session.wire.most_prefixes:
         yield f"  neighbor {at} maximum-prefix {session.wire.most_prefixes}"
-    yield f"  neighbor {at} route-map in-{name} in"
-    yield f"  neighbor {at} route-map out-{name} out"
+    if ending:
+        yield f"  neighbor {at} soft-reconfiguration inbound"
+    yield from used_lines(session, ending)
 
 
 def place_of(session: Session) -> str | None:

@@ -1,6 +1,7 @@
 """Reads a file of FRR back, or what `show running-config` writes, which has another order.
 
-As for BIRD: the lists and the maps of a router, as far as the file is as written, and where it isn't.
+As for BIRD: the lists and the maps of a router, as far as the file is as written, and where it isn't. How names end in a staged file
+says nothing of its own.
 """
 from __future__ import annotations
 
@@ -12,6 +13,7 @@ from .maps import Block, Entry, Lists, Network, Row, RouterMaps, Tag
 NUMBER = r"(\d{1,10})"
 PREFIX = r"(\d+\.\d+\.\d+\.\d+/\d\d?)"
 TAG = rf"{NUMBER}:0:{NUMBER}"
+NAME = re.compile(r"\b((?:list-\d+(?:-again-\d+)?|(?:in|out|own)-[^\s:]+)):[0-9a-f]{8}(?=\s|$)", re.MULTILINE)
 ROW = re.compile(rf"ip prefix-list list-{NUMBER}(?:-again-\d+)? seq {NUMBER} (deny|permit) {PREFIX}(?: le (\d\d?))?")
 TAG_LIST = re.compile(rf"bgp large-community-list standard (\S+) seq \d+ permit {TAG}")
 MAP = re.compile(rf"route-map (in|out|own)-(\S+) (permit|deny) {NUMBER}")
@@ -29,7 +31,7 @@ UNTOLD = ((8, re.compile(r"bgp ebgp-requires-policy|neighbor \S+ send-community 
 def read_frr(text: str) -> tuple[Lists, RouterMaps, list[str]]:
     below: dict[str, list[str]] = {}
     numbers: dict[str, int] = {}
-    for number, path in paths(text):
+    for number, path in paths(NAME.sub(r"\1", text)):
         below.setdefault(path[0], []).extend(path[1:2])
         numbers.setdefault(path[0], number)
     maps, unread = read_maps(below)

@@ -6,6 +6,7 @@ from collections.abc import Iterable
 from dataclasses import dataclass, field
 from typing import NamedTuple
 
+from texts.faults import Fault
 from texts.prefixes import covers, length_of
 from texts.topology import Topology
 
@@ -88,6 +89,15 @@ class Maps:
 def permits(rows: Iterable[Row], prefix: str) -> bool:
     """Whether the first row that has the prefix is a `permit`."""
     return next((row.word == "permit" for row in rows if covers(row.prefix, row.longest, prefix)), False)
+
+
+def parted(number: int, rows: list[Row]) -> tuple[list[Row], list[Row]]:
+    """What a list denies and what it permits. The `deny` rows of a configuration's maps come first, so two sets say such a list."""
+    words = [row.word for row in rows]
+    if words != sorted(words):
+        raise Fault(f"maps: list {number} denies behind what it permits: these aren't the maps of a configuration")
+    place = words.count("deny")
+    return rows[:place], rows[place:]
 
 
 def in_order(networks: Iterable[Network]) -> list[Network]:

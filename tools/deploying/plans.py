@@ -51,17 +51,19 @@ class Choices:
     """What all files of a network say besides maps and addresses.
 
     `paths` is the most next hops that packets to a prefix are spread over, `ties` which of several routes is used. `originated` has the prefixes that each router originates, where
-    they are told: the maps say nothing of an origin at which no path of the policy ends.
+    they are told: the maps say nothing of an origin at which no path of the policy ends. Files are `staged` where a running daemon
+    may take other ones of their kind, without a session going down.
     """
 
     paths: int = 1
     ties: Ties = Ties.LOWEST
     originated: Mapping[str, Sequence[str]] = field(default_factory=dict)
+    staged: bool = False
 
     @staticmethod
-    def of(paths: int, ties: Ties, policy: Policy | None, topology: Topology) -> Choices:
+    def of(paths: int, ties: Ties, policy: Policy | None, topology: Topology, staged: bool = False) -> Choices:
         """These, where a policy may be given."""
-        return Choices(paths, ties, policy.originated(router.name for router in topology.routers) if policy else {})
+        return Choices(paths, ties, policy.originated(router.name for router in topology.routers) if policy else {}, staged)
 
 
 @dataclass
@@ -69,7 +71,7 @@ class Plan:
     """A router with its lists, its networks, its sessions in order of location, and for each neighbour what is taken and sent.
 
     `unsent` are prefixes that it originates and tells nobody. `own_numbers` are the AS numbers by which the network is known, inside and
-    outside. `paths` is the most next hops of a route, and `ties` says which route is used of those that tie.
+    outside. `paths` is the most next hops of a route, and `ties` says which route is used of those that tie. `staged` is as in `Choices`.
     """
 
     site: Site
@@ -82,6 +84,7 @@ class Plan:
     paths: int
     ties: Ties
     rpki: Cache | None
+    staged: bool
 
     def is_asked(self, session: Session) -> bool:
         """Whether the cache of RPKI's is asked for what is taken over a session."""
@@ -122,4 +125,4 @@ def plan_of(topology: Topology, maps: Maps, addresses: Addresses, choices: Choic
     mine = maps.routers[site.name]
     sessions = [session_of(addresses, site, other) for other in topology.neighbours(site.name)]
     return Plan(site, maps.lists, mine.networks, unsent_of(site.name, mine.networks, choices), sessions, mine.blocks,
-                own_numbers(topology, addresses), choices.paths, choices.ties, addresses.rpki)
+                own_numbers(topology, addresses), choices.paths, choices.ties, addresses.rpki, choices.staged)

@@ -19,11 +19,13 @@ FIRST = """\
 1. Write `"shut":true` into the entry of this link in ADDRESSES, and with tools/deploy the files of {routers}. Load them without a
    restart:"""
 BIRD = "   {router} on BIRD: birdc configure"
+OPENBGPD = "   {router} on OpenBGPD: bgpctl reload"
 FRR = "   {router} on FRR: vtysh -c 'configure terminal' -c 'route-map in-{other} deny 1' -c 'route-map out-{other} deny 1'"
 LAST = """\
 2. Wait until no message moves, and some seconds for packets that are under way.
 3. End the session: the link may be worked on.
-4. Afterwards write the files without `shut`, and load them: on BIRD as above, on FRR with `no route-map .. deny 1`."""
+4. Afterwards write the files without `shut`, and load them: on BIRD and OpenBGPD as above, on FRR with
+   `no route-map .. deny 1`."""
 
 
 class Asked:
@@ -71,6 +73,7 @@ def steps(topology: Topology, ends: Sequence[str]) -> Iterator[str]:
     yield FIRST.format(routers=" and ".join(router for router, _ in routers))
     for router, other in routers:
         yield BIRD.format(router=router)
+        yield OPENBGPD.format(router=router)
         yield FRR.format(router=router, other=other)
     yield LAST
 

@@ -25,11 +25,19 @@ Source = Union[str, tuple[str, str]]  # a router, or a session of a router and a
 
 
 @dataclass(frozen=True)
+class Row:
+    """What a cut changes: whether some other router gets another route, and the ranks that are other ones."""
+
+    moves: bool
+    ranks: dict[Source, int | None]
+
+
+@dataclass(frozen=True)
 class Cuts:
-    """What `whatif` says of a scenario: the rank of each claimed source, and for each cut that changes something those that change."""
+    """What `whatif` says of a scenario: the rank of each claimed source, and a row for each cut that changes something."""
 
     base: dict[Source, int | None]
-    rows: dict[Failure, dict[Source, int | None]]
+    rows: dict[Failure, Row]
 
 
 def source_of(line: Fields) -> Source:
@@ -43,6 +51,12 @@ def and_fails(scenario: Scenario, failure: Failure) -> Scenario:
     return Scenario(scenario.prefix, scenario.dead, scenario.dead_links | {failure}, scenario.silent)
 
 
+def lines_of(command: str, report: str) -> list[Fields]:
+    """The lines of a report."""
+    lines: list[Fields] = document_of(command, DONE, report)["lines"]
+    return lines
+
+
 class Answers:
     """Asks the program, and remembers what it said."""
 
@@ -50,9 +64,10 @@ class Answers:
         self.words, self.folder = [program, topology, policy], folder
         self.outcomes: dict[Scenario, dict[Source, Held]] = {}
         self.cuts: dict[Scenario, Cuts] = {}
+        self.known: dict[str, tuple[Source, Held] | None] = {}  # what a line says: most reports have most lines in common
 
-    def ask(self, command: str, scenario: Scenario) -> list[Fields]:
-        """The lines of a command's report on a scenario."""
+    def ask(self, command: str, scenario: Scenario) -> str:
+        """A command's report on a scenario."""
         file, path = tempfile.mkstemp(dir=self.folder)
         with os.fdopen(file, "w", encoding="utf-8") as text:
             text.write(scenario.text())
@@ -65,24 +80,31 @@ class Answers:
             os.remove(path)
         if ran.returncode != DONE:
             raise Ended(ran.returncode if ran.returncode > 0 else NO_PROGRAM, ran.stderr.decode("utf-8", "replace").rstrip("\n"))
-        lines: list[Fields] = document_of(command, DONE, ran.stdout.decode())["lines"]
-        return lines
+        return ran.stdout.decode()
+
+    def held(self, line: str) -> tuple[Source, Held] | None:
+        """What a line of `replay` says of a router, or of a session, if it does."""
+        if line not in self.known:
+            found: Fields = lines_of("replay", line)[0]
+            says = found["kind"] in ("router", "session")
+            self.known[line] = (source_of(found), Held(found["state"], found.get("rank"), tuple(found.get("path", ())))) if says else None
+        return self.known[line]
 
     def outcomes_of(self, scenarios: Iterable[Scenario]) -> None:
         """Asks for the outcomes of scenarios that weren't asked for yet."""
         new = [each for each in dict.fromkeys(scenarios) if each not in self.outcomes]
         with ThreadPoolExecutor(os.cpu_count()) as pool:
-            for scenario, lines in zip(new, pool.map(lambda each: self.ask("replay", each), new)):
-                held = {source_of(line): Held(line["state"], line.get("rank"), tuple(line.get("path", ())))
-                        for line in lines if line["kind"] in ("router", "session")}
-                self.outcomes[scenario] = held
+            for scenario, report in zip(new, pool.map(lambda each: self.ask("replay", each), new)):
+                self.outcomes[scenario] = dict(filter(None, map(self.held, report.splitlines())))
 
     def cuts_of(self, scenarios: Iterable[Scenario]) -> None:
         """Asks for the ranks under each cut beside scenarios that weren't asked for yet."""
         new = [each for each in dict.fromkeys(scenarios) if each not in self.cuts]
         with ThreadPoolExecutor(os.cpu_count()) as pool:
-            for scenario, lines in zip(new, pool.map(lambda each: self.ask("whatif", each), new)):
+            for scenario, report in zip(new, pool.map(lambda each: self.ask("whatif", each), new)):
+                lines = lines_of("whatif", report)
                 base = {source_of(line): line["rank"] for line in lines if line["kind"] == "base"}
-                rows = {frozenset(line["link"]) if "link" in line else line["router"]: {source_of(row): row["rank"] for row in line["lines"]}
+                rows = {frozenset(line["link"]) if "link" in line else line["router"]:
+                        Row(line["moves"] > 0, {source_of(row): row["rank"] for row in line["lines"]})
                         for line in lines if line["kind"] == "cut"}
                 self.cuts[scenario] = Cuts(base, rows)

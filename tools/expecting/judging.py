@@ -1,14 +1,14 @@
 """Goes over the failures of an expectation, and asks no more than it has to.
 
 One `whatif` tells the ranks under every single cut. So what is expected of ranks alone takes one run for all failures of one thing, and
-one run more for each thing where two may fail. What is expected of paths takes a `replay` where a cut changes something: where `whatif`
-has no line for a cut, all other routers keep their routes, and nothing more is asked.
+one run more for each thing where two may fail. What is expected of paths takes a `replay` where a cut moves a route: where `whatif`
+says that all other routers keep theirs, nothing more is asked.
 """
 from __future__ import annotations
 
 import itertools
 import math
-from collections.abc import Iterator, Sequence
+from collections.abc import Iterator, Mapping, Sequence
 from dataclasses import dataclass
 
 from texts.scenario import Scenario
@@ -18,6 +18,7 @@ from .answers import Answers, Failure, Source, and_fails
 from .claims import Held, IsOffered
 from .text import Expectation
 
+Sources = dict[str, list[Source]]  # for each subject the lines of a report that speak of it
 AT_ONCE = 256  # scenarios that are asked for before their answers are judged
 
 
@@ -73,16 +74,16 @@ class Judge:
     def __init__(self, topology: Topology, answers: Answers) -> None:
         self.topology, self.answers = topology, answers
 
-    def sources(self, expectation: Expectation) -> dict[str, list[Source]]:
+    def sources(self, expectation: Expectation) -> Sources:
         """For each subject the lines of a report that speak of it: a router's, or those of a peer's sessions."""
         def lines(name: str) -> list[Source]:
             site = self.topology.sites[name]
             return [(router.name, name) for router in self.topology.neighbours(name)] if site.is_peer else [name]
         return {name: lines(name) for name in expectation.subjects}
 
-    def wrong(self, expectation: Expectation, held: dict[Source, Held], dead: frozenset[str]) -> str:
-        """What is wrong where reports say this; nothing where all is as expected. Of what is down nothing is expected."""
-        for name, lines in self.sources(expectation).items():
+    def wrong(self, expectation: Expectation, sources: Sources, held: Mapping[Source, Held], dead: frozenset[str]) -> str:
+        """What is wrong with these subjects where reports say this; nothing where all is as expected. Of what is down nothing is expected."""
+        for name, lines in sources.items():
             told = {line: held[line] for line in lines if line in held}
             if name in dead or all(isinstance(line, tuple) and line[0] in dead for line in lines):
                 continue
@@ -113,7 +114,7 @@ class Judge:
         failing = things(expectation, self.topology)
         count = tried(len(failing), expectation.under.most)
         self.answers.outcomes_of([expectation.base])
-        found = self.wrong(expectation, self.answers.outcomes[expectation.base], expectation.base.dead)
+        found = self.wrong(expectation, self.sources(expectation), self.answers.outcomes[expectation.base], expectation.base.dead)
         if found:
             return Verdict(expectation, count, (), found)
         below = sets(len(failing), expectation.under.most - 1)
@@ -123,29 +124,36 @@ class Judge:
         return Verdict(expectation, count)
 
     def beyond(self, expectation: Expectation, failing: list[Failure], some: list[tuple[int, ...]]) -> Iterator[tuple[tuple[Failure, ...], str]]:
-        """Where an expectation doesn't hold if one thing more fails than in one of these sets, of those that come later in the order."""
+        """Where an expectation doesn't hold if one thing more fails than in one of these sets, of those that come later in the order.
+
+        Where no rank of a subject changes with that, it holds as it did before."""
+        sources = self.sources(expectation)
+        # An offer also goes with its session. A session without one leads nowhere, so of its path nothing is wrong then.
+        is_of_routes = expectation.claim.needs_path or all(isinstance(line, str) for lines in sources.values() for line in lines)
         scenarios = {places: scenario_of(expectation.base, [failing[place] for place in places]) for places in some}
         self.answers.cuts_of(scenarios.values())
         next_ones: list[tuple[tuple[Failure, ...], Scenario]] = []
         for places, scenario in scenarios.items():
             cuts = self.answers.cuts[scenario]
-            are_told = all(line in cuts.base for lines in self.sources(expectation).values() for line in lines)
+            are_told = all(line in cuts.base for lines in sources.values() for line in lines)
             for place in range(places[-1] + 1 if places else 0, len(failing)):
                 row = cuts.rows.get(failing[place])
-                if row is None:
-                    continue  # nothing changes
+                if row is None or is_of_routes and not row.moves:
+                    continue  # nothing changes that is asked for
                 failures = tuple(failing[each] for each in (*places, place))
                 if expectation.claim.needs_path or not are_told:
                     next_ones.append((failures, and_fails(scenario, failing[place])))
                     continue
-                held = {line: Held("none" if rank is None else "rank", rank) for line, rank in (cuts.base | row).items()}
-                said = self.wrong(expectation, held, scenario_of(expectation.base, failures).dead)
+                touched = {name: lines for name, lines in sources.items() if any(line in row.ranks for line in lines)}
+                ranks = {line: row.ranks.get(line, cuts.base[line]) for lines in touched.values() for line in lines}
+                held = {line: Held("none" if rank is None else "rank", rank) for line, rank in ranks.items()}
+                said = self.wrong(expectation, touched, held, scenario_of(expectation.base, failures).dead)
                 if said:
                     yield failures, said
         for at in range(0, len(next_ones), AT_ONCE):
             part = next_ones[at:at + AT_ONCE]
             self.answers.outcomes_of(scenario for _, scenario in part)
             for failures, scenario in part:
-                said = self.wrong(expectation, self.answers.outcomes[scenario], scenario.dead)
+                said = self.wrong(expectation, sources, self.answers.outcomes[scenario], scenario.dead)
                 if said:
                     yield failures, said

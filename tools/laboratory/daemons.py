@@ -1,4 +1,4 @@
-"""BIRD and FRR in the namespace of a site: begun, asked, ended."""
+"""BIRD, FRR and OpenBGPD in the namespace of a site: begun, asked, ended."""
 from __future__ import annotations
 
 import contextlib
@@ -19,11 +19,13 @@ FRR = os.environ.get("FRR_DAEMONS", "/usr/lib/frr")
 class Daemon:
     """The processes of a site, with a folder for their files.
 
-    `ending` is that of recorded answers, and `forget` what the kernel is told to flush once the processes are gone.
+    `ending` is that of recorded answers, `forget` what the kernel is told to flush once the processes are gone, and `tells_kernel`
+    whether it puts its routes there.
     """
 
     ending: str
     forget: tuple[tuple[str, ...], ...]
+    tells_kernel = True
 
     def __init__(self, space: str, folder: str) -> None:
         self.space, self.folder = space, folder
@@ -50,22 +52,26 @@ class Daemon:
 
     def stop(self) -> None:
         """Ends all at once, as a crash would; the kernel keeps nothing of what it was told."""
-        for process in reversed(self.running):
-            process.kill()
+        self.signal(signal.SIGKILL)
+        for process in self.running:
             process.wait()
         self.running = []
         for words in self.forget:
             ran("ip", "-n", self.space, words[0], "flush", *words[1:])
 
+    def signal(self, number: int) -> None:
+        """Sends a signal to the processes, and to those that they have made."""
+        for process in self.running:
+            if process.poll() is None:
+                os.killpg(process.pid, number)
+
     def hold(self) -> None:
         """Nothing that is told reaches the processes until they go on."""
-        for process in self.running:
-            process.send_signal(signal.SIGSTOP)
+        self.signal(signal.SIGSTOP)
 
     def go_on(self) -> None:
         """Ends a hold."""
-        for process in self.running:
-            process.send_signal(signal.SIGCONT)
+        self.signal(signal.SIGCONT)
 
     def start(self, file: str) -> None:
         """Begins with a file as the configuration."""
@@ -216,3 +222,36 @@ class Frr(Daemon):
 
     def loaded(self, _: str) -> str:
         return self.vtysh("-c", "show running-config")
+
+
+class OpenBgpd(Daemon):
+    """OpenBGPD, with a file as its configuration. As Debian has it, it leaves the kernel's routes alone."""
+
+    ending = ".openbgpd"
+    forget = ()
+    tells_kernel = False
+
+    def start(self, file: str) -> None:
+        with contextlib.suppress(FileNotFoundError):
+            os.unlink(self.path("bgpd.ctl"))
+        longer = self.path("bgpd.conf")
+        write(longer, f'socket "{self.path("bgpd.ctl")}"\ninclude "{file}"\n')
+        os.chmod(longer, 0o600)
+        self.spawn("bgpd", "bgpd.ctl", "bgpd", "-d", "-v", "-f", longer)
+
+    def ask(self, *words: str) -> str:
+        return ran("bgpctl", "-j", "-s", self.path("bgpd.ctl"), *words)
+
+    def answer(self, prefix: str) -> str:
+        return self.ask("show", "rib", "selected", "detail", prefix)
+
+    def sessions(self) -> tuple[set[str], list[Any]]:
+        neighbours = json.loads(self.ask("show", "neighbor")).get("neighbors", [])
+        moves = [(each["description"], each["state"], each["stats"]["update"]) for each in neighbours]
+        return {each["description"] for each in neighbours if each["state"] == "Established"}, moves
+
+    def answering(self) -> set[str]:
+        return set()
+
+    def loaded(self, file: str) -> str:
+        return read(file)

@@ -16,7 +16,10 @@ from typing import Any, NoReturn
 from .commands import Broken, ran, read, write
 
 HERE = "/run/lab"  # in memory, which the lab alone sees
+OPENBGPD = "/run/openbgpd"  # what OpenBGPD's processes see as all files
 ENTERED = "LAB_ENTERED"
+USERS = {"frr": "frr:x:0:0::/:/bin/false", "_openbgpd": f"_openbgpd:x:0:0::{OPENBGPD}:/bin/false"}
+GROUPS = {"frr": "frr:x:0:", "frrvty": "frrvty:x:0:frr", "_openbgpd": "_openbgpd:x:0:"}
 PATIENCE = 15  # seconds that the lab has for ending by itself
 ENDING = (signal.SIGINT, signal.SIGTERM, signal.SIGHUP, signal.SIGQUIT)
 
@@ -28,6 +31,11 @@ class Stopped(Exception):
 def is_inside() -> bool:
     """Whether this is the first process of namespaces that a lab has made; a variable alone may come from anywhere."""
     return ENTERED in os.environ and os.getpid() == 1
+
+
+def is_root() -> bool:
+    """Whether root has made the lab."""
+    return os.environ.get(ENTERED) == "root"
 
 
 def run_inside(words: list[str]) -> int:
@@ -66,7 +74,8 @@ def end(process: subprocess.Popen[bytes], ended: list[int]) -> int:
 
 
 def furnish() -> None:
-    """The lab's own folder, and what ends the lab. Where there is no user but root, FRR's daemons take root for their own."""
+    """The lab's own folder, and what ends the lab. Where there is no user but root, daemons take root for their own; a user that a
+    daemon's package hasn't made is root as well."""
 
     def stop(number: int, _: Any) -> NoReturn:
         raise Stopped(signal.Signals(number).name)
@@ -75,11 +84,12 @@ def furnish() -> None:
         signal.signal(number, stop)
     ran("mount", "-t", "tmpfs", "lab", "/run")
     os.makedirs(HERE)
-    if os.environ[ENTERED] == "user":
-        for name, ours in (("passwd", {"frr": "frr:x:0:0::/:/bin/false"}), ("group", {"frr": "frr:x:0:", "frrvty": "frrvty:x:0:frr"})):
-            lines = [ours.get(line.split(":")[0], line) for line in read(f"/etc/{name}").splitlines()]
-            write(f"/run/{name}", "\n".join(lines) + "\n")
-            ran("mount", "--bind", f"/run/{name}", f"/etc/{name}")
+    os.makedirs(OPENBGPD)
+    for name, ours in (("passwd", USERS), ("group", GROUPS)):
+        lines = {line.split(":")[0]: line for line in read(f"/etc/{name}").splitlines()}
+        lines = ours | lines if is_root() else lines | ours
+        write(f"/run/{name}", "\n".join(lines.values()) + "\n")
+        ran("mount", "--bind", f"/run/{name}", f"/etc/{name}")
 
 
 def command() -> list[str]:

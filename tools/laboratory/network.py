@@ -1,10 +1,11 @@
 """The sites of a network as namespaces, its links, and what fails now."""
 from __future__ import annotations
 
+import ipaddress
 import json
 import os
 import time
-from collections.abc import Collection, Iterable, Iterator, Mapping
+from collections.abc import Iterable, Iterator, Mapping
 from concurrent.futures import ThreadPoolExecutor
 from dataclasses import dataclass, replace
 from typing import Any
@@ -16,8 +17,8 @@ from texts.scenario import Scenario
 from texts.topology import Site
 
 from . import spaces
-from .commands import ran, write
-from .daemons import Bird, Daemon, Frr
+from .commands import Broken, ran, write
+from .daemons import Bird, Daemon, Frr, OpenBgpd
 from .origins import Origins
 from .peers import numbers_behind, peer_text
 
@@ -30,6 +31,14 @@ POLL = 0.5
 AT_ONCE = 8  # daemons that are begun at once
 
 
+def hardware(link_local: str) -> str:
+    """The hardware address of which the kernel makes a link-local address (RFC 4291, appendix A). FRR sends packets there, and asks nobody."""
+    octets = ipaddress.IPv6Address(link_local).packed[8:]
+    if octets[3:5] != b"\xff\xfe":
+        raise Broken(f"{link_local} isn't made of a hardware address, and FRR sends packets to the one that a link-local address is made of")
+    return ":".join(f"{octet:02x}" for octet in (octets[0] ^ 2, *octets[1:3], *octets[5:]))
+
+
 @dataclass(frozen=True)
 class Inputs:
     """A network with its maps, and the file that each router loads, by name."""
@@ -40,23 +49,28 @@ class Inputs:
 
 
 class Network:
-    """A namespace and a daemon for each site, called as the site is. `now` says what fails, `is_quiet` that quiet has come since."""
+    """A namespace and a daemon for each site, called as the site is. `now` says what fails, `is_quiet` that quiet has come since.
 
-    def __init__(self, inputs: Inputs, frr: Collection[str], prefixes: Iterable[str], folder: str) -> None:
+    `kinds` says which daemon each router runs.
+    """
+
+    def __init__(self, inputs: Inputs, kinds: Mapping[str, str], prefixes: Iterable[str], folder: str) -> None:
         self.inputs, self.folder = inputs, folder
         self.topology, self.addresses = inputs.described.topology, inputs.described.addresses
         own = {network.prefix for router in inputs.maps.routers.values() for network in router.networks}
         self.announced = sorted(set(prefixes) - own)
-        self.routers = {site.name: self.daemon(site, site.name in frr) for site in self.topology.routers}
+        self.routers = {site.name: self.daemon(site, kinds[site.name]) for site in self.topology.routers}
         self.peers = {site.name: Bird(site.name, os.path.join(folder, site.name)) for site in self.topology.peers}
         self.daemons: Mapping[str, Daemon] = {**self.routers, **self.peers}
         self.now, self.is_quiet = Scenario("", dead=frozenset(self.topology.sites)), False
         self.prepends = dict.fromkeys(self.peers, 0)  # how often a peer puts its own number in front once more
 
-    def daemon(self, site: Site, is_frr: bool) -> Bird | Frr:
+    def daemon(self, site: Site, kind: str) -> Bird | Frr | OpenBgpd:
         folder = os.path.join(self.folder, site.name)
-        if not is_frr:
+        if kind == "bird":
             return Bird(site.name, folder)
+        if kind == "openbgpd":
+            return OpenBgpd(site.name, folder)
         sessions = [session_of(self.addresses, site, other) for other in self.topology.neighbours(site.name)]
         return Frr(site.name, folder, {session.interface or session.theirs or "": session.neighbour.name for session in sessions})
 
@@ -78,8 +92,7 @@ class Network:
             for site, other in ((one, two), (two, one)):
                 at, inner = self.addresses.wire(one, two).addresses, self.addresses.wire(one, two).link_locals
                 if inner:
-                    ran("ip", "-n", site, "link", "set", self.interface(site, other), "addrgenmode", "none")
-                    ran("ip", "-n", site, "addr", "add", f"{inner[site]}/64", "dev", self.interface(site, other), "nodad")
+                    ran("ip", "-n", site, "link", "set", self.interface(site, other), "address", hardware(inner[site]))
                 if at:
                     ran("ip", "-n", site, "addr", "add", at[site], "peer", at[other], "dev", self.interface(site, other))
                 ran("ip", "-n", site, "link", "set", self.interface(site, other), "up")
@@ -142,6 +155,10 @@ class Network:
 
     def live_routers(self) -> list[str]:
         return [router.name for router in self.topology.routers if router.name not in self.now.dead]
+
+    def sending_routers(self) -> list[str]:
+        """The live routers whose daemons tell the kernel where to send packets."""
+        return [name for name in self.live_routers() if self.routers[name].tells_kernel]
 
     def live_peers(self) -> list[str]:
         return [peer.name for peer in self.topology.peers if peer.name not in self.now.dead]

@@ -1,9 +1,9 @@
 """What the peers of a network say: BIRD's files of peers that mean no good.
 
-Their paths go on behind them. They announce with the network's own tags and with communities that routers act upon by themselves
-(graceful shutdown, blackhole, no export), claim the network's own prefixes, and hand on what they hear. Over a silent session they
-announce nothing, or a path with another router's number on it, which is to be refused; where a cache of RPKI's is asked, they announce
-an origin that it says is wrong. And they note, whenever it comes, what no
+Their paths go on behind them. They announce with the network's own tags, with the marks that OpenBGPD's files make for themselves, and
+with communities that routers act upon by themselves (graceful shutdown, blackhole, no export), claim the network's own prefixes, and
+hand on what they hear. Over a silent session they announce nothing, or a path with another router's number on it, which is to be
+refused; where a cache of RPKI's is asked, they announce an origin that it says is wrong. And they note, whenever it comes, what no
 peer is ever to hear: another prefix than the network's own, a path of more than one number, a community.
 """
 from __future__ import annotations
@@ -36,7 +36,7 @@ def peer_text(topology: Topology, maps: Maps, addresses: Addresses, site: Site, 
         is_silent, (behind, unknown) = frozenset((site.name, router.name)) in silent, numbers_behind(topology, addresses)
         silence = silence_of(topology, router) if is_silent and not addresses.rpki else ""
         numbers = [unknown if is_silent and addresses.rpki else behind, *[site.asn] * prepends]
-        parts += [filter_text(router.name, known_tags(maps), silence, numbers),
+        parts += [filter_text(router.name, known_tags(maps), sorted(maps.lists)[:MOST_TAGS], silence, numbers),
                   protocol_text(session, addresses.public_as or router.asn)]
     return "\n".join(parts) + "\n"
 
@@ -72,13 +72,14 @@ def numbers_behind(topology: Topology, addresses: Addresses) -> tuple[int, int]:
     return first, second
 
 
-def filter_text(name: str, tags: Sequence[Tag], silence: str, behind: Sequence[int]) -> str:
+def filter_text(name: str, tags: Sequence[Tag], lists: Sequence[int], silence: str, behind: Sequence[int]) -> str:
     lines = [f"filter 'out:{name}' {{",
              *(f"  if proto = \"announced\" then bgp_path.prepend({number});" for number in behind),
              f"  if proto = \"announced\" then {silence}" if silence else "",
              "  bgp_community.add((65535, 0)); bgp_community.add((65535, 666)); bgp_community.add((65535, 65281));",
              "  bgp_ext_community.add((rt, 1, 2)); bgp_med = 7; bgp_origin = ORIGIN_INCOMPLETE;",
-             *(f"  bgp_large_community.add(({tag.asn}, 0, {tag.value}));" for tag in tags), "  accept;", "}"]
+             *(f"  bgp_large_community.add(({tag.asn}, 0, {tag.value}));" for tag in tags),
+             *(f"  bgp_community.add(({number >> 16}, {number & 65535}));" for number in lists), "  accept;", "}"]
     return "\n".join(filter(None, lines))
 
 

@@ -59,7 +59,7 @@ def compare(network: Network, texts: Texts, scenario: Scenario, folder: str) -> 
     peers = [(peer, router.name) for peer in network.live_peers() for router in network.topology.neighbours(peer)]
     hops = next_hops(network, texts, paths, path)
     faults += [*peer_faults(network, offers, peers, scenario.prefix), *kernel_faults(network, hops, scenario.prefix), *network.unanswered()]
-    return Answer(faults, len(paths), len(peers), len(network.live_routers()), hops)
+    return Answer(faults, len(paths), len(peers), len(network.sending_routers()), hops)
 
 
 def held_by(texts: Texts, ties: Ties, scenario: str, tables: str, folder: str) -> tuple[str, list[str]]:
@@ -137,7 +137,7 @@ def peer_faults(network: Network, offers: Offers, peers: Collection[tuple[str, s
 def kernel_faults(network: Network, hops: Hops, prefix: str) -> Iterator[str]:
     """The kernel of a router sends to all next hops that it may use, or to as many as its file allows."""
     most = network.inputs.described.choices.paths
-    for name in network.live_routers():
+    for name in network.sending_routers():
         found, wanted = network.next_hops(name, prefix), hops[name]
         fits = found is not None and wanted is not None and found <= wanted and len(found) == min(most, len(wanted))
         if not fits and (found is not None or wanted is not None):

@@ -14,13 +14,14 @@ from .network import Network
 from .questions import Answer, Texts, compare
 from .restless import stir
 
+FIRST = "1"  # place of a scenario
 UNSEEN = 0.5  # seconds in which the kernels of both ends see that a link is gone
 
 
 @dataclass(frozen=True)
 class Trials:
     """A network that runs, the texts that it is compared with, a folder for what is recorded, for how long what differs may change, and for
-    how many seconds there is no rest before each scenario."""
+    how many seconds there is no rest before something else fails."""
 
     network: Network
     texts: Texts
@@ -36,7 +37,7 @@ class Trials:
     def examined(self, scenario: Scenario, place: str) -> Answer:
         """What differs in a scenario once nothing moves any more. Daemons may be slow: what differs is asked again for a while."""
         network = self.network
-        if self.restless:
+        if self.restless and (place == FIRST or not scenario.fails_as(network.now)):
             say(f"changes without rest: {stir(network, self.restless, self.chance)}")
         end = time.monotonic() + self.patience
         if not scenario.fails_as(network.now):

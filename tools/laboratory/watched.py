@@ -124,9 +124,9 @@ def run(example: str, folder: str) -> int:
     topology = Topology(read(texts[0]))
     maps = read_maps(topology, propane("routemap", *texts))
     addresses = Addresses(read(os.path.join(example, "addresses.json")), topology)
-    inputs = Inputs(Described(topology, addresses, Choices()), maps, {})
-    deployed(inputs, {"R2"}, None, os.path.join(folder, "deployed"))
-    network = Network(inputs, {"R2"}, [PREFIX], os.path.join(folder, "run"))
+    inputs, kinds = Inputs(Described(topology, addresses, Choices()), maps, {}), {"R1": "bird", "R2": "frr"}
+    deployed(inputs, kinds, None, os.path.join(folder, "deployed"))
+    network = Network(inputs, kinds, [PREFIX], os.path.join(folder, "run"))
     network.lay()
     network.make(NOTHING)
     network.settle(time.monotonic() + 120)

@@ -4,6 +4,7 @@ from __future__ import annotations
 import contextlib
 import os
 import signal
+import socket
 import sys
 import tempfile
 import threading
@@ -24,6 +25,7 @@ from .server import Server
 
 TOOLS = os.path.dirname(os.path.dirname(os.path.abspath(__file__)))
 WISHES = {"--save", "--browser"}
+ENDING = (signal.SIGINT, signal.SIGTERM, signal.SIGHUP)
 GO = ('<!doctype html><meta charset="utf-8"><meta name="referrer" content="no-referrer">'
       '<meta http-equiv="refresh" content="0;url={0}"><a href="{0}">the page</a>\n')
 
@@ -50,8 +52,20 @@ def shown(address: str) -> Iterator[None]:
         yield
 
 
+def sleep() -> NoReturn:
+    """Sleeps until a signal ends the page. The system may let any thread hear it, and Python then acts in this one, but wakes it by a
+    byte alone: a mere pause would go on."""
+    ear, mouth = socket.socketpair()
+    mouth.setblocking(False)
+    signal.set_wakeup_fd(mouth.fileno())
+    while True:
+        ear.recv(1)
+
+
 def stopped(number: int, frame: FrameType | None) -> NoReturn:
-    """A signal ends the page as an interrupt does."""
+    """A signal ends the page, and no further one keeps it from ending."""
+    for each in ENDING:
+        signal.signal(each, signal.SIG_IGN)
     raise KeyboardInterrupt
 
 
@@ -63,8 +77,7 @@ def serve(page: Page, server: Server, wishes: set[str]) -> None:
         print("The program is built without proof and slow on large networks; ./propane prove proves it and builds it fast.", flush=True)
     with shown(address) if "--browser" in wishes else contextlib.nullcontext():
         threading.Thread(target=server.serve_forever, args=(0.2,), daemon=True).start()
-        while True:
-            signal.pause()
+        sleep()
 
 
 def main(arguments: list[str], usage: str) -> int:
@@ -78,17 +91,14 @@ def main(arguments: list[str], usage: str) -> int:
     except Ended as ended:
         print(ended.line, file=sys.stderr)
         return ended.status
-    for number in signal.SIGTERM, signal.SIGHUP:
+    for number in ENDING:
         if signal.getsignal(number) != signal.SIG_IGN:
             signal.signal(number, stopped)
-    server = Server(page)
     try:
-        serve(page, server, wishes)
+        with Server(page) as server, contextlib.closing(page.runner):
+            serve(page, server, wishes)
     except KeyboardInterrupt:
         return DONE
     except OSError:
         return WRITE_FAULT
-    finally:
-        page.runner.close()
-        server.server_close()
     return DONE

@@ -1,14 +1,21 @@
-"""Runs the program, and tools/why, for the page: a few at a time, each within a time and a part of memory."""
+"""Runs the program, and tools/why, for the page: a few at a time, each within a time and a part of memory.
+
+Each run has a folder of its own in the folder of the server, which is there from the first run on. Folders and texts are made while a
+lock is held and only until the end begins. So at the end nothing is made any more, and one thread takes away all that was made, whatever
+the others are at.
+"""
 from __future__ import annotations
 
 import contextlib
 import hashlib
 import os
 import resource
+import shutil
 import signal
 import subprocess
 import tempfile
 import threading
+import time
 from collections import OrderedDict
 from collections.abc import Callable, Iterator
 from dataclasses import dataclass
@@ -17,9 +24,10 @@ from dataclasses import dataclass
 COMMANDS = {
     "explain": "", "promises": "", "lint": "", "compile": "", "evidence": "", "routemap": "",
     "replay": "scenario.json", "whatif": "scenario.json", "drain": "scenario.json", "multipath": "scenario.json", "trace": "events.json",
-    "settle": "events.json",
+    "settle": "events.json", "waiting": "events.json",
 }
 SECONDS, WHY_SECONDS = 60, 60
+LAST_SECONDS = 5  # at the end, for processes that were killed to be gone
 AT_ONCE = max(2, min(4, (os.cpu_count() or 2) - 1))
 MEMORY = 4 << 30
 KEPT_BYTES = 64 << 20
@@ -77,11 +85,22 @@ def version_of(program: str, begins: Callable[[], None] | None = None) -> str:
     return "" if ran.returncode else " ".join(ran.stdout.decode("utf-8", "replace").split())
 
 
+def taken_away(folder: str, until: float) -> None:
+    """Takes a folder away with all that is in it. What was killed in the middle of a call may still put something there, so this tries
+    again, but not for ever."""
+    while True:
+        shutil.rmtree(folder, ignore_errors=True)
+        if not os.path.lexists(folder) or time.monotonic() > until:
+            return
+        time.sleep(0.01)
+
+
 class Turn:
-    """A question that is being asked, and the process that answers it once that is begun."""
+    """A question that is being asked, its folder, and the process that answers it once that is begun."""
 
     def __init__(self) -> None:
         self.child: subprocess.Popen[bytes] | None = None
+        self.folder = ""
 
     def end(self) -> None:
         """Ends the process with what it started: it leads a group of its own."""
@@ -96,7 +115,8 @@ class Runner:
     def __init__(self, program: str, why: str, topology: bytes) -> None:
         self.program, self.why_script, self.topology = program, why, topology
         self.kept, self.places = Kept(KEPT_BYTES), threading.Semaphore(AT_ONCE)
-        self.lock, self.lanes, self.is_closed = threading.Lock(), dict[str, Turn](), False
+        self.lock, self.lanes, self.running, self.is_closed = threading.Lock(), dict[str, Turn](), set[Turn](), False
+        self.folder = ""  # of all runs, once there is one
         self.version = version_of(program, limited)
         self.is_limited = self.version != ""
         if not self.is_limited:
@@ -145,35 +165,52 @@ class Runner:
 
     def run(self, turn: Turn, lane: str, words: list[str], texts: dict[str, bytes], seconds: int, environment: dict[str, str]) -> Answer:
         """Runs words in a folder with these texts."""
-        with self.places, tempfile.TemporaryDirectory(prefix="propane-open.") as folder:
-            for name, text in texts.items():
-                with open(os.path.join(folder, name), "xb") as file:
-                    file.write(text)
-            child = self.begun(turn, lane, words, folder, environment)
-            if child is None:
-                return Answer(STOPPED)
+        with self.places:
             try:
-                output, error = child.communicate(timeout=seconds)
-            except subprocess.TimeoutExpired:
-                turn.end()
-                child.communicate()
-                return Answer(STOPPED, error=f"no answer in {seconds} seconds".encode())
-            if child.returncode >= 0:
-                return Answer(child.returncode, output, error)
-            ended = f"the program was ended by signal {-child.returncode}" if self.is_last(turn, lane) else ""
-            return Answer(STOPPED, error=ended.encode())
+                child = self.begun(turn, lane, words, texts, environment)
+                return Answer(STOPPED) if child is None else self.told(turn, lane, child, seconds)
+            finally:
+                self.ended(turn)
 
-    def begun(self, turn: Turn, lane: str, words: list[str], folder: str, environment: dict[str, str]) -> subprocess.Popen[bytes] | None:
-        """The process that answers; none where a newer question came meanwhile, or the end."""
+    def begun(self, turn: Turn, lane: str, words: list[str], texts: dict[str, bytes],
+              environment: dict[str, str]) -> subprocess.Popen[bytes] | None:
+        """The process that answers, in a folder with these texts; none where a newer question came meanwhile, or the end."""
         with self.lock:
             if self.is_closed or self.lanes.get(lane) is not turn:
                 return None
-            turn.child = subprocess.Popen(words, cwd=folder, env={**os.environ, **environment}, stdin=subprocess.DEVNULL,
-                                          stdout=subprocess.PIPE, stderr=subprocess.PIPE, start_new_session=True)
+            self.running.add(turn)
+            self.folder = self.folder or tempfile.mkdtemp(prefix="propane-open.")
+            turn.folder = tempfile.mkdtemp(dir=self.folder)
+            for name, text in texts.items():
+                with open(os.path.join(turn.folder, name), "xb") as file:
+                    file.write(text)
+            own = {**os.environ, **environment, "TMPDIR": turn.folder}
+            turn.child = subprocess.Popen(words, cwd=turn.folder, env=own, stdin=subprocess.DEVNULL, stdout=subprocess.PIPE,
+                                          stderr=subprocess.PIPE, start_new_session=True)
         if words[0] == self.program and self.is_limited:
             with contextlib.suppress(OSError, ValueError):
                 resource.prlimit(turn.child.pid, resource.RLIMIT_AS, (MEMORY, MEMORY))
         return turn.child
+
+    def told(self, turn: Turn, lane: str, child: subprocess.Popen[bytes], seconds: int) -> Answer:
+        """What the process that answers says, within so many seconds."""
+        try:
+            output, error = child.communicate(timeout=seconds)
+        except subprocess.TimeoutExpired:
+            turn.end()
+            child.communicate()
+            return Answer(STOPPED, error=f"no answer in {seconds} seconds".encode())
+        if child.returncode >= 0:
+            return Answer(child.returncode, output, error)
+        ended = f"the program was ended by signal {-child.returncode}" if self.is_last(turn, lane) else ""
+        return Answer(STOPPED, error=ended.encode())
+
+    def ended(self, turn: Turn) -> None:
+        """Takes the folder of a run away, which at the end of all is left to `close`."""
+        if turn.folder and not self.is_closed:
+            taken_away(turn.folder, 0)
+        with self.lock:
+            self.running.discard(turn)
 
     def is_last(self, turn: Turn, lane: str) -> bool:
         """Whether no newer question of the lane, and no end, has come meanwhile."""
@@ -181,8 +218,15 @@ class Runner:
             return self.lanes.get(lane) is turn and not self.is_closed
 
     def close(self) -> None:
-        """Ends all that is asked."""
+        """Ends all that is asked, and takes away all that was made for it. It waits a few seconds at most, whatever is asked."""
         with self.lock:
             self.is_closed = True
-            for turn in self.lanes.values():
-                turn.end()
+            running, until = list(self.running), time.monotonic() + LAST_SECONDS
+        for turn in running:
+            turn.end()
+        for turn in running:
+            if turn.child is not None:
+                with contextlib.suppress(subprocess.TimeoutExpired):
+                    turn.child.wait(max(0.0, until - time.monotonic()))
+        if self.folder:
+            taken_away(self.folder, until)

@@ -13,6 +13,7 @@ from typing import Optional
 
 from texts.cases import Case
 from texts.policy import BOTH, RANKED, Call, Expression, Joined, Not, Policy, Statement, joined
+from texts.promises import promises_of
 
 from .cases import TO, Ranks, examples
 from .expressions import flat
@@ -48,9 +49,8 @@ GivenUp = Callable[[Statement], Price]
 
 def promised_in(promises: str, number: int) -> dict[str, int]:
     """What is promised in the case of this number: the best rank of each claimed source while nothing fails."""
-    block = re.search(rf"^case {number} statement \d+\n(?:(?!case |uncarried |open |cases ).*\n)*", promises, re.MULTILINE)
-    found = re.findall(r"^source (?:router (\S+)|session (\S+) (\S+)) rank (\d+)$", block.group() if block else "", re.MULTILINE)
-    return {router or via + TO + peer: int(rank) for router, via, peer, rank in found}
+    case = next((case for case in promises_of(promises).cases if case.number == number), None)
+    return case.routers | {via + TO + peer: rank for (via, peer), rank in case.sessions.items()} if case else {}
 
 
 def paths_in(report: str) -> dict[str, Walk]:

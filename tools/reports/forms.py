@@ -54,19 +54,25 @@ round      round {round#} router {router} first {first*} second {second*} {reaso
 round      round {round#} router {router} first {first*} second {second*} {reason=loop} {to} via {via*}
 round      round {round#} router {router} first {first*} second {second*} {reason=listener} {to}
 """
+WAITS = """
+waits      waits {from} {to} path {path*}
+waits      waits {from} {to} withdraw
+"""
 PROMISES = """
-case       case {case#} statement {statement#}
-prefix     prefix {prefix^}
-origin     origin {origin}
-source     source router {router} rank {rank#}
-source     source session {router} {peer} rank {rank#}
-unclaimed  unclaimed router {router}
-unclaimed  unclaimed session {router} {peer}
-unclaimed  unclaimed peer {peer}
-transit    transit router {router}
+statement  statement {statement#}
+rank       rank {rank#} {alternative$}
+case       case {cases+} statement {statement#}
+prefix     prefix {prefixes,}
+origin     origin {origins,}
+source     source router {routers*} rank {rank#}
+source     source session {sessions%} rank {rank#}
+unclaimed  unclaimed router {routers*}
+unclaimed  unclaimed session {sessions%}
+unclaimed  unclaimed peer {peers*}
+transit    transit router {routers*}
 covered    covered
-unused     unused origin {origin}
-uncarried  uncarried {prefix^}
+unused     unused origin {routers*}
+uncarried  uncarried {prefixes*}
 open       open {pattern^} in {prefix} case {case#}
 cases      cases {cases#} unclaimed {unclaimed#} transit {transit#} covered {covered#} unused {unused#} uncarried {uncarried#} open {open#}
 """
@@ -105,6 +111,7 @@ LINES = {
     "replay": OUTCOME,
     "trace": HAPPENED + "quiet  quiet {quiet~}\n" + OUTCOME,
     "settle": HAPPENED + "rounds  rounds {rounds#}\ndeliveries  deliveries {deliveries#}\n" + OUTCOME,
+    "waiting": WAITS + "quiet  quiet {quiet~}\n",
     "promises": PROMISES,
     "whatif": CUTS,
     "impact": CUTS,
@@ -119,13 +126,13 @@ LINES = {
     "version": "propane  propane {version}\nkit  kit {kit}\n",
 }
 # The format of a report, where it is no longer the first one.
-LATER = {"whatif": 2}
+LATER = {"promises": 2, "whatif": 2}
 # The lines below which others stand, up to the next of their kind or the line that ends the report.
-ABOVE = {"promises": ("case", frozenset({"uncarried", "open", "cases"})), "whatif": ("cut", frozenset({"cuts"})),
+ABOVE = {"promises": ("case", frozenset({"statement", "uncarried", "open", "cases"})), "whatif": ("cut", frozenset({"cuts"})),
          "impact": ("cut", frozenset({"cuts"}))}
 NONE_ABOVE: tuple[str, frozenset[str]] = ("", frozenset())
 # What the other commands write is no report: a configuration, evidence, maps or a page of help.
-NO_REPORTS = {"compile", "evidence", "migrate", "routemap", "help", "maps"}
+NO_REPORTS = {"compile", "evidence", "migrate", "routemap", "help", "maps", "between", "renew", "renewal"}
 
 
 def format_of(command: str) -> int:

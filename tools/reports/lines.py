@@ -7,6 +7,10 @@
     {quiet~}    true for `yes`, false for `no`
     {link&}     an array of two words
     {path*}     an array of one word or more; in a form with several the first ones are the shortest that fit
+    {cases+}    an array of whole numbers
+    {names,}    an array, with an array for each word: its parts, which stand behind commas; a part may be a prefix with ` le N`
+    {pairs%}    an array of arrays of two words
+    {rest$}     the rest of the line
     {prefix^}   a prefix, with ` le N` behind it where that stands there
     {state=a|b} one of these words
 """
@@ -15,10 +19,13 @@ from __future__ import annotations
 import re
 from typing import Any, NamedTuple
 
-FIELD = re.compile(r"\{([a-z]+)([#?!~&*^]|=[a-z|-]+)?\}")
+FIELD = re.compile(r"\{([a-z]+)([#?!~&*^+,%$]|=[a-z|-]+)?\}")
 NUMBER = "0|[1-9][0-9]*"
+PART = r"[^\s,]+(?: le [0-9]+)?"
+WORD = f"{PART}(?:,{PART})*"
 PATTERNS = {"": r"\S+", "#": NUMBER, "?": f"none|{NUMBER}", "!": f"none|rank (?:{NUMBER})", "~": "yes|no", "&": r"\S+ \S+",
-            "*": r"\S+(?: \S+)*?", "^": r"\S+(?: le [0-9]+)?"}
+            "*": r"\S+(?: \S+)*?", "^": r"\S+(?: le [0-9]+)?", "+": f"(?:{NUMBER})(?: (?:{NUMBER}))*", ",": rf"{WORD}(?: {WORD})*",
+            "%": r"\S+ \S+(?: \S+ \S+)*?", "$": ".+"}
 Fields = dict[str, Any]
 
 
@@ -37,8 +44,13 @@ class Field(NamedTuple):
 
     def read(self, text: str) -> Any:
         """The value that a part of a line spells."""
-        if self.sort in ("&", "*"):
-            return text.split(" ")
+        if self.sort in ("&", "*", "+", "%"):
+            words = text.split(" ")
+            if self.sort == "%":
+                return [list(pair) for pair in zip(words[::2], words[1::2])]
+            return [int(word) for word in words] if self.sort == "+" else words
+        if self.sort == ",":
+            return [word.split(",") for word in re.findall(WORD, text)]
         if self.sort == "~":
             return text == "yes"
         if self.sort in ("?", "!") and text == "none":
@@ -47,8 +59,10 @@ class Field(NamedTuple):
 
     def write(self, value: Any) -> str:
         """The part of a line that spells a value."""
-        if self.sort in ("&", "*"):
-            return " ".join(value)
+        if self.sort in ("&", "*", "+"):
+            return " ".join(map(str, value))
+        if self.sort in (",", "%"):
+            return " ".join(("," if self.sort == "," else " ").join(each) for each in value)
         if self.sort == "~":
             return "yes" if value else "no"
         if value is None:
@@ -62,6 +76,10 @@ class Field(NamedTuple):
         if self.sort in ("&", "*"):
             size = {"minItems": 2, "maxItems": 2} if self.sort == "&" else {"minItems": 1}
             return {"type": "array", "items": {"type": "string"}} | size
+        if self.sort in ("+", ",", "%"):
+            pair = {"minItems": 2, "maxItems": 2} if self.sort == "%" else {"minItems": 1}
+            item = {"type": "integer", "minimum": 1} if self.sort == "+" else {"type": "array", "items": {"type": "string"}} | pair
+            return {"type": "array", "items": item, "minItems": 1}
         if self.sort in ("#", "?", "!"):
             return {"type": "integer" if self.sort == "#" else ["integer", "null"], "minimum": 0}
         return {"type": "boolean" if self.sort == "~" else "string"}

@@ -6,7 +6,8 @@ from __future__ import annotations
 from dataclasses import dataclass, field
 from typing import Any
 
-CASE, CUT_LINK, CUT_ROUTER = "case 2 statement 3\n", "cut link R1 P1 moves 2 shifts 3\n", "cut router R2 moves 0 shifts 1\n"
+CASE = "case 2 5 statement 3\nprefix 10.0.1.0/24,10.0.2.0/24 10.0.5.0/24\norigin R3 R2,R3\n"  # of which readers show the first
+CUT_LINK, CUT_ROUTER = "cut link R1 P1 moves 2 shifts 3\n", "cut router R2 moves 0 shifts 1\n"
 COUNTED = "cases 1 unclaimed 0 transit 0 covered 0 unused 0 uncarried 0 open 0"  # the last line of promises
 NAMES = ("R1", "R2", "R3", "P1", "P2")  # routers and peers of the lines
 
@@ -52,20 +53,28 @@ ROWS = (
     Row("report", "router R1 transit path R1 R2", router("R1", "transit", 0, "R1 R2")),
     Row("report", "session R1 P1 rank 1 path P1 R1 R2", session("R1", "P1", "rank", 1, "P1 R1 R2")),
     Row("report", "session R1 P1 none", session("R1", "P1", "none")),
+    Row("promises", "statement 3", {"ranks": [[3, []]]}, CASE),
+    Row("promises", "rank 2 exit(P1) and avoid(R2)", {"ranks": [[3, ["exit(P1) and avoid(R2)"]]]}, "statement 3\n"),
     Row("promises", "case 2 statement 3", {"cases": [[2, 3]]}),
-    Row("promises", "prefix 10.0.0.0/8 le 24", {"prefixes": ["10.0.0.0/8 le 24"]}, CASE),
-    Row("promises", "prefix 10.0.1.0/24", {"prefixes": ["10.0.1.0/24"]}, CASE),
-    Row("promises", "origin R3", {"origins": ["R3"]}, CASE),
-    Row("promises", "origin peers", {"origins": ["peers"]}, CASE),
+    Row("promises", "case 2 4 statement 3", {"cases": [[2, 3], [4, 3]]}),
+    Row("promises", "prefix 10.0.0.0/8 le 24", {"prefixes": ["10.0.0.0/8 le 24"]}, "case 2 statement 3\n"),
+    Row("promises", "prefix 10.0.1.0/24,10.0.0.0/8 le 24,10.0.2.0/24", {"prefixes": ["10.0.1.0/24", "10.0.0.0/8 le 24", "10.0.2.0/24"]},
+        "case 2 statement 3\n"),
+    Row("promises", "prefix 10.0.1.0/24 10.0.0.0/8 le 24", {"prefixes": ["10.0.1.0/24"]}, "case 2 4 statement 3\n"),
+    Row("promises", "origin R3", {"origins": ["R3"]}, "case 2 statement 3\n"),
+    Row("promises", "origin R3,R1 R2", {"origins": ["R3", "R1"]}, "case 2 4 statement 3\n"),
+    Row("promises", "origin peers", {"origins": ["peers"]}, "case 2 statement 3\n"),
     Row("promises", "source router R1 rank 2", {"sources": [["R1", "", 2]]}, CASE),
+    Row("promises", "source router R1 R2 R3 rank 2", {"sources": [["R1", "", 2], ["R2", "", 2]]}, CASE),
     Row("promises", "source session R1 P1 rank 1", {"sources": [["R1", "P1", 1]]}, CASE),
-    Row("promises", "unclaimed router R2", {"unclaimed": ["router R2"]}, CASE),
-    Row("promises", "unclaimed session R1 P2", {"unclaimed": ["session R1 P2"]}, CASE),
-    Row("promises", "unclaimed peer P1", {"unclaimed": ["peer P1"]}, CASE),
-    Row("promises", "transit router R2", {"transit": ["R2"]}, CASE),
+    Row("promises", "source session R1 P1 R3 P2 rank 1", {"sources": [["R1", "P1", 1], ["R3", "P2", 1]]}, CASE),
+    Row("promises", "unclaimed router R1 R2 R3", {"unclaimed": ["router R1", "router R2"]}, CASE),
+    Row("promises", "unclaimed session R1 P2 R3 P2", {"unclaimed": ["session R1 P2", "session R3 P2"]}, CASE),
+    Row("promises", "unclaimed peer P1 P2", {"unclaimed": ["peer P1", "peer P2"]}, CASE),
+    Row("promises", "transit router R2 R3", {"transit": ["R2"]}, CASE),
     Row("promises", "covered", {"covered": [2]}, CASE),
-    Row("promises", "unused origin R3", {"unused": ["R3"]}, CASE),
-    Row("promises", "uncarried 10.0.9.0/24", {"uncarried": ["10.0.9.0/24"]}, CASE),
+    Row("promises", "unused origin R2 R3", {"unused": ["R3"]}, CASE),
+    Row("promises", "uncarried 10.0.9.0/24 10.0.8.0/24", {"uncarried": ["10.0.9.0/24", "10.0.8.0/24"]}, CASE),
     Row("promises", "open 10.0.9.0/28 in 10.0.9.0/24 case 2", {"open": [["10.0.9.0/28", "10.0.9.0/24", 2]]}, CASE),
     Row("promises", "open 10.0.9.0/24 le 32 in 10.0.9.0/24 case 2", {"open": [["10.0.9.0/24 le 32", "10.0.9.0/24", 2]]}, CASE),
     Row("promises", COUNTED, {"last": COUNTED}, CASE),
@@ -95,6 +104,12 @@ ROWS = (
     Row("spread", "session R1 P1 none", {"sessions": [["R1", "P1", "none", 0, 0, []]]}),
     Row("spread", "idle link R2 R1", {"idle": ["R1~R2"]}),
     Row("spread", "idle 1 of 5", {"last": "idle 1 of 5"}),
+    Row("waits", "waits R1 R2 path R1 R3 P1", {"waits": [["R1", "R2", [["R1", "R3", "P1"]]]]}),
+    Row("waits", "waits R1 R2 withdraw", {"waits": [["R1", "R2", [None]]]}),
+    Row("waits", "waits R1 R2 withdraw", {"waits": [["R1", "R2", [["R1", "P1"], None]]]}, "waits R1 R2 path R1 P1\n"),
+    Row("waits", "waits R2 R1 withdraw", {"waits": [["R1", "R2", [["R1", "P1"]]], ["R2", "R1", [None]]]}, "waits R1 R2 path R1 P1\n"),
+    Row("waits", "quiet no"),
+    Row("waits", "quiet yes"),
 )
 
 

@@ -29,11 +29,12 @@ def heard() -> None:
 
 
 class Served:
-    """A server of two files, with the words of the command line before them."""
+    """A server of two files, with the words of the command line before them. What it makes for a while is in `room`."""
 
-    def __init__(self, *words: str, program: str = PROGRAM) -> None:
+    def __init__(self, *words: str, program: str = PROGRAM, room: str = "") -> None:
+        own = {"PROGRAM": program} | ({"TMPDIR": room} if room else {})
         self.child = subprocess.Popen([*WITH_US, OPEN, *words], stdin=subprocess.DEVNULL, stdout=subprocess.PIPE, stderr=subprocess.PIPE, text=True,
-                                      env=os.environ | {"PROGRAM": program}, preexec_fn=heard)
+                                      env=os.environ | own, preexec_fn=heard)
         line = self.child.stdout.readline()
         found = re.search(r"http://(127\.0\.0\.1:([0-9]+))/([A-Za-z0-9_-]+)/", line)
         if not found:

@@ -8,6 +8,8 @@ import sys
 import tempfile
 import unittest
 from contextlib import redirect_stderr, redirect_stdout
+from types import SimpleNamespace
+from unittest import mock
 
 sys.dont_write_bytecode = True
 HERE = os.path.dirname(os.path.abspath(__file__))
@@ -15,12 +17,17 @@ TOP = os.path.dirname(os.path.dirname(HERE))
 sys.path[:0] = [os.path.join(TOP, "tools"), HERE]
 
 from common import ended  # noqa: E402
+from deploying import openbgpd, openbgpd_reader  # noqa: E402
 from deploying.command import main  # noqa: E402
 from deploying.maps import Row  # noqa: E402
 from laboratory import origins, packets, trials  # noqa: E402
-from laboratory.command import kept, words_of  # noqa: E402
+from laboratory.command import kept, kinds_of, words_of  # noqa: E402
+from laboratory.commands import Broken  # noqa: E402
+from laboratory.network import hardware  # noqa: E402
 from laboratory.questions import Answer, different, told_by  # noqa: E402
 from laboratory.scenarios import permitted, single_failures  # noqa: E402
+from texts.faults import Fault  # noqa: E402
+from texts.scenario import Scenario  # noqa: E402
 from texts.topology import Topology  # noqa: E402
 
 EXAMPLE = os.path.join(TOP, "examples", "two-exits")
@@ -121,6 +128,19 @@ DRIFT = [
     ("R2.frr.conf", " set local-preference 100\nexit\n!\nroute-map in-R1 deny", "exit\n!\nroute-map in-R1 deny",
      "R2: R2.frr.conf: line 21: route-map in-R1 permit 20: no entry as it would be written"),
     ("R2.frr.conf", "list-1 seq 5 permit 0.0.0.0/0", "list-1 seq 5 permit 10.0.0.0/8", "R2: R2.frr.conf: list 1 isn't that of R1"),
+    ("R1.openbgpd.conf", "rde route-age ignore", "rde route-age evaluate",
+     "R1: R1.openbgpd.conf: line 7: rde route-age evaluate: would be: rde route-age ignore"),
+    ("R1.openbgpd.conf", "metric 0, ", "", "R1: R1.openbgpd.conf: line 35: match from any set { community delete *:*, ext-community delete * *, origin igp }: "
+     "would be: match from any set { community delete *:*, ext-community delete * *, metric 0, origin igp }"),
+    ("R1.openbgpd.conf", "a-secret", "other", "R1: R1.openbgpd.conf: line 28: tcp md5sig password ..: would be: tcp md5sig password .."),
+    ("R1.openbgpd.conf", 'descr "R2"', 'descr "R3"', "R1: R1.openbgpd.conf: no maps of R2"),
+    ("R1.openbgpd.conf", "deny quick from 10.0.0.1\n", "allow quick from 10.0.0.1\n",
+     "R1: R1.openbgpd.conf: line 40: allow quick from 10.0.0.1: would be: deny quick from 10.0.0.1"),
+    ("R1.openbgpd.conf", "deny quick to 198.51.100.1\n", "deny quick to 198.51.100.1\nallow from any\n",
+     "R1: R1.openbgpd.conf: line 50: allow from any: would be: the end"),
+    ("R1.openbgpd.conf", "prefix-set \"list-1\" large-community 64513:0:2", "prefix-set \"list-2\" large-community 64513:0:2",
+     "R1: R1.openbgpd.conf: an entry of R2 is over the list 2, which isn't there"),
+    ("R1.openbgpd.conf", "0.0.0.0/0 maxlen 32", "0.0.0.0/0 maxlen 24", "R2: R2.frr.conf: list 1 isn't that of R1"),
 ]
 
 
@@ -134,6 +154,28 @@ FRR_ADDED = [
     " rpki cache 192.0.2.9 3323 preference 1", "ip prefix-list longer-24 seq 5 permit 0.0.0.0/0 ge 25", "route-map in-P1 deny 1",
     "route-map out-P1 deny 1", "route-map in-P1 deny 6", " match ip address prefix-list longer-24", "route-map in-P1 deny 7", " match rpki invalid",
     " neighbor 10.0.0.1 bfd", "  neighbor 198.51.100.1 maximum-prefix 1000",
+]
+OPENBGPD_ADDED = [
+    "rtr 192.0.2.9 {", "  port 3323", "  multihop 3", "  ttl-security yes", "  holdtime 30", "  max-prefix 1000",
+    "deny quick from 198.51.100.1 prefix 0.0.0.0/0 prefixlen > 24", "deny quick from 198.51.100.1 ovs invalid", "deny quick from 198.51.100.1",
+    "deny quick to 198.51.100.1",
+]
+# What OpenBGPD can't say: what stands in the maps or in ADDRESSES, what is to stand in its place, options, and the fault.
+UNSAID = [
+    (ADDRESSES, SHORT, SHORT + ',"bfd":true', (), "addresses: the link R1 R2: `bfd`: OpenBGPD has none"),
+    (ADDRESSES, SHORT, '"interfaces":["a","b"],"link_locals":["fe80::1","fe80::2"]', (),
+     "addresses: the link R1 R2 has no addresses: OpenBGPD sends no route of IPv4 over a session of IPv6"),
+    (ADDRESSES, '"a-secret"', f'"{"a" * 80}"', (), "addresses: the link R1 P1: `password`: OpenBGPD takes 79 letters"),
+    (MAPS, "", "", ("--paths", "2"), "--paths: OpenBGPD sends packets over one next hop: R1"),
+    (MAPS, "in 10 list 1 set 64512:0:1 pref 101\n", "in 10 list 1 set 64512:0:1 pref 101\nout 10 list 1 match 64512:0:2\n", (),
+     "maps: router R1 peer P1: out 10 list 1 match 64512:0:2: OpenBGPD can't take private AS numbers out of a path, and the peer would see them"),
+    (MAPS, "in 20 list 1 match 64513:0:2", "in 20 list 1 match 64513:0:1", (),
+     "maps: router R1 neighbor R2: in 20 list 1 match 64513:0:1 set 64512:0:1 pref 101: "
+     "OpenBGPD makes one rule of it and of one before that asks for the same"),
+    (MAPS, "router R1 asn 64512 id 10.255.0.1\n", "router R1 asn 64512 id 10.255.0.1\nnetwork 10.0.0.0/8 list 1 set 64512:0:7\n", (),
+     "maps: router R1: list 1 doesn't permit the network 10.0.0.0/8"),
+    (MAPS, "list 1 permit 0.0.0.0/0 le 32\n", "list 1 permit 0.0.0.0/0 le 32\nlist 1 deny 10.0.0.0/8\n", (),
+     "maps: list 1 denies behind what it permits: these aren't the maps of a configuration"),
 ]
 
 
@@ -163,7 +205,7 @@ class Deploying(unittest.TestCase):
         self.addCleanup(shutil.rmtree, self.folder)
 
     def test_files_are_written_byte_for_byte(self):
-        for kind in ("bird", "frr"):
+        for kind in ("bird", "frr", "openbgpd"):
             self.assertEqual(deploy(f"--{kind}", TOPOLOGY, MAPS, ADDRESSES, self.folder), (0, "", ""))
             for router in ("R1", "R2"):
                 name = f"{router}.{kind}.conf"
@@ -176,7 +218,8 @@ class Deploying(unittest.TestCase):
         self.assertEqual(deploy("--frr", TOPOLOGY, MAPS, ADDRESSES, self.folder, "P1"), (3, "", "deploy: no router of the topology: P1\n"))
 
     def test_files_are_read_back_as_their_maps(self):
-        for files in (("R1.bird.conf", "R2.bird.conf"), ("R1.frr.conf", "R2.frr.conf"), ("R1.bird.conf", "R2.frr.conf")):
+        kinds = ("bird", "frr", "openbgpd")
+        for files in ((f"R1.{one}.conf", f"R2.{two}.conf") for one in kinds for two in kinds):
             folder = tempfile.mkdtemp(dir=self.folder)
             for name in files:
                 shutil.copy(os.path.join(DEPLOYED, name), folder)
@@ -186,15 +229,20 @@ class Deploying(unittest.TestCase):
         self.assertEqual(deploy("--read", TOPOLOGY, ADDRESSES, os.path.join(HERE, "running")), (0, text_of(MAPS), ""))
 
     def test_other_examples_are_read_back(self):
-        for example in ("ring", "data-centre"):
+        for example, own in (("ring", ("C", "D")), ("data-centre", ("L1", "L2", "L3", "S1", "S2"))):
             words = [os.path.join(TOP, "examples", example, name) for name in ("topology.json", "routemap.stdout", "addresses.json")]
             for kind in ("--bird", "--frr"):
                 folder = tempfile.mkdtemp(dir=self.folder)
                 self.assertEqual(deploy(kind, *words, folder), (0, "", ""))
                 self.assertEqual(deploy("--read", words[0], words[2], folder), (0, text_of(words[1]), ""))
+            for router in own:  # of these no peer is told what came from another router
+                os.remove(os.path.join(folder, f"{router}.frr.conf"))
+            self.assertEqual(deploy("--openbgpd", *words, folder, *own), (0, "", ""))
+            self.assertEqual(deploy("--read", words[0], words[2], folder), (0, text_of(words[1]), ""))
 
     def test_ties_by_age(self):
-        for kind, gone, wanted in (("frr", " bgp bestpath compare-routerid", ()), ("bird", "  prefer older off;", ("  prefer older on;",))):
+        for kind, gone, wanted in (("frr", " bgp bestpath compare-routerid", ()), ("bird", "  prefer older off;", ("  prefer older on;",)),
+                                   ("openbgpd", "rde route-age ignore", ("rde route-age evaluate",))):
             folder = tempfile.mkdtemp(dir=self.folder)
             self.assertEqual(deploy(f"--{kind}", "--ties", "oldest", TOPOLOGY, MAPS, ADDRESSES, folder), (0, "", ""))
             found = text_of(os.path.join(folder, f"R1.{kind}.conf")).splitlines()
@@ -208,7 +256,7 @@ class Deploying(unittest.TestCase):
         """FRR finds the neighbour by itself; BIRD is told its link-local address."""
         words = [os.path.join(TOP, "examples", "ring", name) for name in ("topology.json", "routemap.stdout", "link-local.json")]
         for kind, ending, wanted in (("--frr", "frr", [" neighbor swp1 interface remote-as 4200000002"]),
-                                     ("--bird", "bird", ["  local fe80::1 as 4200000001;", "  neighbor fe80::2%'swp1' as 4200000002;",
+                                     ("--bird", "bird", ["  local fe80::ff:fe00:1 as 4200000001;", "  neighbor fe80::ff:fe00:2%'swp1' as 4200000002;",
                                                          "    extended next hop on;", "protocol radv 'own:radv' {"])):
             folder = tempfile.mkdtemp(dir=self.folder)
             self.assertEqual(deploy(kind, *words, folder), (0, "", ""))
@@ -223,7 +271,8 @@ class Deploying(unittest.TestCase):
         self.assertEqual(deploy("--bird", *words, self.folder)[0], 3)
 
     def test_changed_entries_are_other_maps(self):
-        for name, old, new in (("R1.bird.conf", "bgp_local_pref = 100", "bgp_local_pref = 99"), ("R1.frr.conf", "preference 100", "preference 99")):
+        for name, old, new in (("R1.bird.conf", "bgp_local_pref = 100", "bgp_local_pref = 99"), ("R1.frr.conf", "preference 100", "preference 99"),
+                               ("R1.openbgpd.conf", "localpref 100 ", "localpref 99 ")):
             folder = tempfile.mkdtemp(dir=self.folder)
             put(folder, name, text_of(os.path.join(DEPLOYED, name)).replace(old, new, 1))
             shutil.copy(os.path.join(DEPLOYED, "R2.frr.conf"), folder)
@@ -233,7 +282,7 @@ class Deploying(unittest.TestCase):
         for name, old, new, told in DRIFT:
             with self.subTest(name=name, new=new):
                 folder = tempfile.mkdtemp(dir=self.folder)
-                for file in ("R1.frr.conf" if name == "R1.frr.conf" else "R1.bird.conf", "R2.frr.conf"):
+                for file in (name if name.startswith("R1") else "R1.bird.conf", "R2.frr.conf"):
                     text = text_of(os.path.join(DEPLOYED, file))
                     put(folder, file, text.replace(old, new, 1) if file == name else text)
                 status, said, lines = deploy("--read", TOPOLOGY, ADDRESSES, folder)
@@ -272,7 +321,8 @@ class Deploying(unittest.TestCase):
         put(self.folder, "maps", text)
         put(self.folder, "policy", "define BOTH = { R1, R2 };\noriginate 10.0.1.0/24 at BOTH;\n10.0.1.0/24 => end(R1);\n")
         for kind, ending, wanted in (("--bird", "bird", ["  if net = 10.0.1.0/24 then accept;", "  route 10.0.1.0/24 unreachable;"]),
-                                     ("--frr", "frr", ["  network 10.0.1.0/24", "ip route 10.0.1.0/24 blackhole 254"])):
+                                     ("--frr", "frr", ["  network 10.0.1.0/24", "ip route 10.0.1.0/24 blackhole 254"]),
+                                     ("--openbgpd", "openbgpd", ["network 10.0.1.0/24 set localpref 4294967295"])):
             folder = tempfile.mkdtemp(dir=self.folder)
             self.assertEqual(deploy(kind, "--policy", policy, TOPOLOGY, maps, ADDRESSES, folder), (0, "", ""))
             found = text_of(os.path.join(folder, f"R2.{ending}.conf")).splitlines()
@@ -300,13 +350,51 @@ class Deploying(unittest.TestCase):
             if kind == "--frr":
                 self.assertIn("route-map in-P1 deny 1: isn't as written", said)
 
+    def test_what_an_operator_adds_to_openbgpd(self):
+        text = text_of(ADDRESSES).replace('{"public_as"', '{"rpki":{"address":"192.0.2.9","port":3323},"public_as"', 1)
+        text = text.replace(SHORT, SHORT + ',"hops":3,"ttl_security":true,"hold":30', 1)
+        put(self.folder, "addresses", text.replace(ODD, ODD + ',"longest":24,"most_prefixes":1000,"shut":true', 1))
+        addresses, folder = os.path.join(self.folder, "addresses"), os.path.join(self.folder, "files")
+        self.assertEqual(deploy("--openbgpd", TOPOLOGY, MAPS, addresses, folder), (0, "", ""))
+        found = text_of(os.path.join(folder, "R1.openbgpd.conf")).splitlines()
+        self.assertEqual([line for line in OPENBGPD_ADDED if line in found], OPENBGPD_ADDED)
+        self.assertEqual(deploy("--read", TOPOLOGY, addresses, folder), (0, text_of(MAPS), ""))
+        self.assertEqual(deploy("--read", TOPOLOGY, ADDRESSES, folder)[0], 7)
+
+    def test_what_openbgpd_cannot_say(self):
+        for changed, old, new, options, fault in UNSAID:
+            with self.subTest(fault=fault):
+                put(self.folder, "text", text_of(changed).replace(old, new, 1))
+                files = [os.path.join(self.folder, "text") if file == changed else file for file in (MAPS, ADDRESSES)]
+                if fault.startswith("maps: router R1: list 1 doesn't"):
+                    put(self.folder, "text", text_of(files[0]).replace("permit 0.0.0.0/0 le 32", "permit 10.0.0.0/16", 1))
+                folder = os.path.join(self.folder, "none")
+                self.assertEqual(deploy("--openbgpd", *options, TOPOLOGY, *files, folder), (3, "", f"deploy: {fault}\n"))
+                self.assertFalse(os.path.exists(folder))
+
+    def test_lists_with_exceptions_of_openbgpd(self):
+        """A mark says that a route is in the list and not among what it denies; it is told by number also where that is great."""
+        text = text_of(MAPS).replace("list 1 permit 0.0.0.0/0 le 32\n", "list 1 permit 10.0.0.0/8\n" +
+                                     "list 2 deny 10.0.0.0/8\nlist 2 permit 0.0.0.0/0 le 32\n", 1)
+        put(self.folder, "maps", text.replace("in 20 list 1 match 64513:0:2", "in 20 list 2 match 64513:0:2", 1))
+        maps, folder = os.path.join(self.folder, "maps"), os.path.join(self.folder, "files")
+        self.assertEqual(deploy("--openbgpd", TOPOLOGY, maps, ADDRESSES, folder), (0, "", ""))
+        found = text_of(os.path.join(folder, "R1.openbgpd.conf"))
+        for way in ("from", "to"):
+            self.assertIn(f'match {way} any prefix-set "list-2" set community 0:2\n'
+                          f'match {way} any prefix-set "list-2-less" set community delete 0:2\n', found)
+        self.assertIn("allow quick from 10.0.0.1 community 0:2 large-community 64513:0:2 set {", found)
+        self.assertEqual(deploy("--read", TOPOLOGY, ADDRESSES, folder), (0, text_of(maps), ""))
+        self.assertEqual(openbgpd.mark(70_000), "community 1:4464")
+        self.assertEqual(openbgpd_reader.list_of(None, "1", "4464"), 70_000)
+
     def test_a_row_that_stands_twice(self):
         """FRR drops the second one of a list, so it gets a list of its own, and is read back at its place."""
         text = text_of(MAPS).replace("list 1 permit", "list 1 deny 10.0.0.0/8\nlist 1 deny 10.0.0.0/8\nlist 1 permit 10.0.0.0/8 le 9\nlist 1 permit", 1)
         text = text.replace("list 1 permit 0.0.0.0/0 le 32\n", "list 1 permit 0.0.0.0/0 le 32\nlist 1 permit 10.0.0.0/8 le 9\n", 1)
         put(self.folder, "maps", text)
         maps = os.path.join(self.folder, "maps")
-        for kind in ("--bird", "--frr"):
+        for kind in ("--bird", "--openbgpd", "--frr"):
             folder = tempfile.mkdtemp(dir=self.folder)
             self.assertEqual(deploy(kind, TOPOLOGY, maps, ADDRESSES, folder), (0, "", ""))
             self.assertEqual(deploy("--read", TOPOLOGY, ADDRESSES, folder), (0, text, ""))
@@ -443,6 +531,12 @@ class Asking(unittest.TestCase):
         for other in (datagram[:-1], b"\x60" + datagram[1:], datagram.replace(b"\x82\x9a", b"\x82\x9b"), datagram.replace(address, b"\x0a\x00\x01\xfe")):
             self.assertIsNone(packets.port_of(other, address))
 
+    def test_hardware_of_a_link_local_address(self):
+        self.assertEqual(hardware("fe80::ff:fe00:1"), "02:00:00:00:00:01")
+        self.assertEqual(hardware("fe80::5054:ff:fe12:3456"), "52:54:00:12:34:56")
+        with self.assertRaises(Broken):
+            hardware("fe80::1")
+
     def test_what_a_cache_answers(self):
         """RFC 8210: a response, a prefix, and the end of it."""
         self.assertEqual(origins.answer(1, ["10.0.1.0/24"], 3356).hex(),
@@ -464,6 +558,33 @@ class Asking(unittest.TestCase):
             modes = {name: stat.S_IMODE(os.stat(os.path.join(into, name)).st_mode) for name in ("", "deployed", "deployed/R1.bird.conf")}
             self.assertEqual(modes, {"": 0o700, "deployed": 0o700, "deployed/R1.bird.conf": 0o600})
             self.assertEqual(os.listdir(os.path.join(into, "deployed")), ["R1.bird.conf"])
+
+    def test_which_daemons_run(self):
+        topology = Topology(text_of(os.path.join(TOP, "examples", "ring", "topology.json")))
+        for frr, openbgpd_routers, wanted in (("", "", "bird bird bird bird"), ("half", "", "bird frr bird frr"),
+                                              ("third", "third", "bird frr openbgpd bird"), ("A", "C,D", "frr bird openbgpd openbgpd")):
+            self.assertEqual(list(kinds_of(topology, frr, openbgpd_routers, None).values()), wanted.split())
+        with tempfile.TemporaryDirectory() as folder:
+            put(folder, "A.openbgpd.conf", "")
+            put(folder, "C.bird.conf", "")
+            self.assertEqual(list(kinds_of(topology, "all", "", folder).values()), "openbgpd frr bird frr".split())
+        for words, fault in ((("X", ""), "--frr: no router of the topology: X"), (("", "West"), "--openbgpd: no router of the topology: West"),
+                             (("half", "B"), "--openbgpd: the router B is to run another daemon, too")):
+            with self.assertRaises(Fault) as told:
+                kinds_of(topology, *words, None)
+            self.assertEqual(str(told.exception), fault)
+
+    def test_when_all_moves_without_rest(self):
+        """At the beginning, and before something else fails: not for each prefix that is asked for."""
+        choices = SimpleNamespace(paths=1)
+        network = SimpleNamespace(now=Scenario(""), is_quiet=True, asked=lambda scenario: scenario,
+                                  inputs=SimpleNamespace(described=SimpleNamespace(choices=choices)))
+        network.make = lambda scenario: setattr(network, "now", scenario)
+        moved = []
+        cases = [Scenario(prefix, frozenset(dead)) for dead in ("", "A") for prefix in ("10.0.1.0/24", "10.0.2.0/24")]
+        with mock.patch.multiple(trials, stir=lambda *_: moved.append(network.now), compare=lambda *_: Answer([]), say=lambda _: None):
+            answers = trials.run_scenarios(trials.Trials(network, None, "", 1, 5), cases, None)
+        self.assertEqual((len(answers), len(moved)), (4, 2))
 
     def test_words_of_the_lab(self):
         with redirect_stderr(io.StringIO()) as said:

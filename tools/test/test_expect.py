@@ -105,6 +105,14 @@ class Expect(unittest.TestCase):
         _, last = self.judged([("R1 and R2 rank 2 or better under any 1 link but link R1 R2", "")], head="198.51.100.0/24:\n")
         self.assertEqual(last, "expectations 1 failed 0: asked replay 1 whatif 1")
 
+    def test_few_runs_of_paths(self):
+        """What is asked of paths takes a run for each failure that moves a route: in the diamond those of D and A, not those of B and C."""
+        here = os.path.join(TOP, "examples", "diamond")
+        words = [os.path.join(TOP, "tools", "expect"), *(os.path.join(here, name) for name in ("topology.json", "policy.propane"))]
+        status, out, said = ended([*words, self.write("expect", "10.0.1.0/24: C avoids P1 under any 1 router\n")], env={**os.environ, "PROGRAM": PROGRAM})
+        self.assertEqual((status, said), (0, ""))
+        self.assertEqual(out.splitlines()[-1], "expectations 1 failed 0: asked replay 3 whatif 1")
+
     def test_wrong(self):
         with open(TWO[0], encoding="utf-8") as file:
             topology = Topology(file.read())

@@ -5,7 +5,7 @@ import unittest
 from common import PROGRAM, TOP, ended
 
 TOOLS = os.path.join(TOP, "tools")
-SCRIPTS = ("deploy", "expect", "export", "import", "lab", "open", "picture", "recheck", "shut", "tables", "watch", "why")
+SCRIPTS = ("deploy", "expect", "export", "import", "lab", "open", "picture", "recheck", "rollout", "shut", "tables", "watch", "why")
 WIDTH = 80
 
 

@@ -64,7 +64,7 @@ class Json(unittest.TestCase):
                 document = json.loads(json_of(command, status, text))
                 self.assertEqual(text_of(document), text)
                 self.assertEqual(document, {
-                    "propane": 1, "command": command, "format": 2 if command == "whatif" else 1, "status": status, "lines": document["lines"]})
+                    "propane": 1, "command": command, "format": 2 if command in ("promises", "whatif") else 1, "status": status, "lines": document["lines"]})
                 self.assertNotIn("text", [line["kind"] for line in all_lines(document["lines"])])
                 self.assertTrue(is_of(document, schema, schema))
                 seen.add(command)
@@ -72,7 +72,8 @@ class Json(unittest.TestCase):
 
     def test_each_form(self):
         """Each form reads a line that it writes, and no other form of the command takes it for its own."""
-        values = {"": "R", "#": 7, "?": 7, "!": 7, "~": True, "&": ["A", "B"], "*": ["A", "B", "C"], "^": "10.0.0.0/8 le 24"}
+        values = {"": "R", "#": 7, "?": 7, "!": 7, "~": True, "&": ["A", "B"], "*": ["A", "B", "C"], "^": "10.0.0.0/8 le 24",
+                  "+": [1, 12], ",": [["10.0.0.0/8 le 24", "10.0.1.0/24"], ["A"]], "%": [["A", "B"], ["C", "D"]], "$": "exit(A) and not (drop)"}
         for command in LINES:
             for form in forms_of(command):
                 fields = {"kind": form.kind} | {field.name: field.choice[-1] if field.choice else values[field.sort] for field in form.fields}

@@ -49,7 +49,7 @@ class Lines(unittest.TestCase):
         with open(PAGE, encoding="utf-8") as file:
             page = file.read()
         for reader, head in (("report", "The report of an outcome"), ("promises", "Promises"), ("free", "What is free"),
-                             ("spread", "Where packets go")):
+                             ("spread", "Where packets go"), ("waits", "What waits")):
             table = page.partition(f"\n## {head}\n")[2].partition("\n## ")[0]
             cells = re.findall(r"^\| ((?:`[^`]+`(?:, )?)+)[^|]*\|", table, re.M)
             for form in re.findall(r"`([^`]+)`", " ".join(cells)):
@@ -59,9 +59,10 @@ class Lines(unittest.TestCase):
 
 def is_of(row: Row, form: str) -> bool:
     """Whether a row's line has a form of the page: a word in capitals there stands for one word, PATTERN also for one with `le` and a length
-    behind it, and the last for any."""
-    words = [r"\S+(?: le \d+)?" if word == "PATTERN" else r"\S+" if word.isupper() else re.escape(word) for word in form.split()]
-    return re.fullmatch(" ".join(words) + r"(?: \S+)*" if form.split()[-1].isupper() else " ".join(words), row.line) is not None
+    behind it, the last for any, and `..` for more of them."""
+    words = {"PATTERN": r" \S+(?: le \d+)?", "..": r"(?: \S+)*"}
+    pattern = "".join(words.get(word, r" \S+" if word.isupper() else re.escape(f" {word}")) for word in form.split())
+    return re.fullmatch(pattern + (r"(?: \S+)*" if form.split()[-1].isupper() else ""), f" {row.line}") is not None
 
 
 if __name__ == "__main__":

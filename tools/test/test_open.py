@@ -5,6 +5,7 @@ The table of docs/PAGE.md names these tests: each row of what the page is guarde
 from __future__ import annotations
 
 import contextlib
+import ctypes
 import http.client
 import json
 import os
@@ -19,8 +20,11 @@ import time
 import unittest
 from collections.abc import Callable
 from concurrent.futures import ThreadPoolExecutor
+from unittest import mock
 
 from common import ended
+from opening import runner
+from opening.runner import AT_ONCE
 from serving import OPEN, Served, example, text_of
 
 TOPO, POLICY = example("two-exits", "topology.json"), example("two-exits", "policy.propane")
@@ -63,11 +67,6 @@ def is_open(line: socket.socket) -> bool:
     except OSError:
         pass
     return False
-
-
-def folders() -> set[str]:
-    """The folders that servers have made and not taken away."""
-    return {name for name in os.listdir(tempfile.gettempdir()) if name.startswith("propane-open.")}
 
 
 def quietly(call: Callable[[], object]) -> threading.Thread:
@@ -290,10 +289,15 @@ class Files(unittest.TestCase):
 class Ends(unittest.TestCase):
     """An interrupt ends all, and leaves nothing."""
 
+    def setUp(self) -> None:
+        room = tempfile.TemporaryDirectory()
+        self.addCleanup(room.cleanup)
+        self.room = room.name
+
     def test_ends_cleanly_while_at_work(self) -> None:
-        before, policy = folders(), text_of(FABRIC[1])
+        policy = text_of(FABRIC[1])
         for number in signal.SIGINT, signal.SIGTERM, signal.SIGHUP:
-            served = Served(*FABRIC)
+            served = Served(*FABRIC, room=self.room)
             for place in range(12):
                 scenario = json.dumps({"prefix": f"10.0.{place}.0/24", "dead": [], "dead_links": [], "silent": []})
                 quietly(lambda third=scenario, lane=f"lane{place}", one=served: one.ask("whatif", policy, third, lane))
@@ -301,8 +305,53 @@ class Ends(unittest.TestCase):
                 served.end()
                 self.skipTest("the program answers before it is seen at work")
             self.assertEqual(served.end(number), (0, ""))
-        until(lambda: not folders() - before, 5)
-        self.assertEqual(folders() - before, set())
+            self.assertEqual(os.listdir(self.room), [])
+
+    def stuck(self) -> Served:
+        """A server whose questions are all at work for good, or wait. Each has left so much behind that to take it away takes a while."""
+        program, marks = os.path.join(self.room, "program"), os.path.join(self.room, "marks")
+        with open(program, "x", encoding="utf-8") as file:
+            file.write(f'#!/bin/sh\n[ "$1" != version ] || exec echo stuck\nseq 20000 | xargs touch\n: > "{marks}/$$"\nexec sleep 1000\n')
+        os.chmod(program, 0o700)
+        for name in "marks", "server":
+            os.mkdir(os.path.join(self.room, name))
+        served = Served(TOPO, POLICY, program=program, room=os.path.join(self.room, "server"))
+        for place in range(AT_ONCE + 3):
+            quietly(lambda lane=f"lane{place}": served.ask("promises", lane, None, lane))
+        self.assertTrue(until(lambda: len(os.listdir(marks)) == AT_ONCE))
+        return served
+
+    def test_an_interrupt_leaves_no_folder(self) -> None:
+        self.assertEqual(self.stuck().end(), (0, ""))
+        self.assertEqual(os.listdir(os.path.join(self.room, "server")), [])
+
+    def test_each_thread_may_hear_the_interrupt(self) -> None:
+        """The system chooses the thread that hears it; here it is one that serves, while the first one sleeps."""
+        for number in signal.SIGINT, signal.SIGTERM, signal.SIGHUP:
+            served = Served(TOPO, POLICY, room=self.room)
+            served.request()
+            first, *others = sorted(map(int, os.listdir(f"/proc/{served.child.pid}/task")))
+            self.assertEqual((first, ctypes.CDLL(None).tgkill(served.child.pid, others[0], number)), (served.child.pid, 0))
+            self.assertEqual((served.child.wait(60), served.end(), os.listdir(self.room)), (0, (0, ""), []))
+
+    def test_further_interrupts_change_nothing(self) -> None:
+        served = self.stuck()
+        while served.child.poll() is None:
+            served.child.send_signal(signal.SIGINT)
+            time.sleep(0.001)
+        self.assertEqual(served.end(), (0, ""))
+        self.assertEqual(os.listdir(os.path.join(self.room, "server")), [])
+
+    def test_the_end_waits_for_nothing_that_does_not_end(self) -> None:
+        with mock.patch.object(runner, "LAST_SECONDS", 0.3), mock.patch.object(runner.Turn, "end", lambda turn: None):
+            held = runner.Runner(shutil.which("sleep") or "", "", b"")
+            asked = quietly(lambda: held.answer(("stay", "", ""), ["sleep", "1000"], {}, "lane", 1000, {}))
+            self.assertTrue(until(lambda: any(turn.child for turn in held.running)))
+            held.close()
+        self.assertTrue(asked.is_alive())
+        self.assertFalse(os.path.lexists(held.folder))
+        for turn in list(held.running):
+            turn.end()
 
     def test_nothing_goes_on_behind_it(self) -> None:
         served = Served(TOPO, POLICY)

@@ -165,7 +165,9 @@ class Runs(unittest.TestCase):
         told = "".join(f"event {k + 1} nothing-waits\n" for k in range(65_536))
         told += "quiet no\nprefix 10.0.1.0/24\nclass 1\nrouter A origin\nrouter B none\n"
         self.comes_to(["trace"], [TWO_ROUTERS, ANY_PATH, deliveries(65_536)], DONE, told)
-        self.comes_to(["trace"], [TWO_ROUTERS, ANY_PATH, deliveries(65_537)], BAD_INPUT, "propane: events 3 too-many 65537\n")
+        self.comes_to(["waiting"], [TWO_ROUTERS, ANY_PATH, deliveries(65_536)], DONE, "waits A B path A\nquiet no\n")
+        for command in "trace", "waiting":
+            self.comes_to([command], [TWO_ROUTERS, ANY_PATH, deliveries(65_537)], BAD_INPUT, "propane: events 3 too-many 65537\n")
 
     def test_fronts_of_a_configuration(self):
         # Those that are texts, by their lengths in the first edition, and those of the second edition's text that are written of them.

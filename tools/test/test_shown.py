@@ -25,6 +25,10 @@ REFUSED = "propane: refused 6 no-evidence case 1 router W first W X D second W X
 
 SCENARIO = ['{"prefix": "198.51.100.0/24",', ' "dead": [],', ' "dead_links": [["R1", "P1"]],', ' "silent": []}']
 
+SAID = "The commands can be pasted into\none shell.\n\n"
+INSIDE = block("../../propane replay topology.json policy.propane dead-link.json", "", *REPORT)
+SAMPLE = block("cd ../sample", "../../propane version > version.txt") + "Then:\n\n"
+
 # Pages in which all is as it is shown, and what is wrong in others.
 RIGHT = [
     "",
@@ -51,6 +55,11 @@ RIGHT = [
     FILE + block(RULE),
     FILE.replace("policy.propane", "dead-link.json") + block(*SCENARIO),
     "All of it ([two-exits](examples/two-exits)):\n\n" + block("a picture"),
+    SAID + GO + "It holds:\n\n" + INSIDE + "Then:\n\n" + SAMPLE + block("cat version.txt", "../../propane version", "", ".."),
+    SAID + block("./propane version", "", "..") + "Then:\n\n" + RUN + block(*REPORT),
+    SAID + block("cd examples/two-exits", "MODE=replay", REPLAY.replace("replay", "$MODE")) + block(*REPORT),
+    SAID + "<!-- not run: it takes long -->\n\n" + block("cd examples/two-exits", "./propane prove") + "Then:\n\n" + INSIDE,
+    SAID + RUN + block(*REPORT) + NOTED + block(*REPORT),
 ]
 WRONG = [
     (RUN + block(*REPORT[:3], "router R2 rank 2 path R2 P1"), "P:7: is shown: router R2 rank 2 path R2 P1; is written: router R2 rank 2 path R2 P2"),
@@ -67,6 +76,10 @@ WRONG = [
     (block("no-such-program", "./propane version"), "P:1: no-such-program: ends with status 127: "),
     (FILE + block("true => exit(P1);"), "P:3: is shown: true => exit(P1);"),
     (FILE.replace("(examples", "(gone") + block(RULE), "P:3: no file gone/two-exits/policy.propane"),
+    (SAID + RUN + block(*REPORT) + "Then:\n\n" + block("./propane version"), "P:14: ./propane version: ends with status 127: "),
+    (SAID + RUN + block(*REPORT[:3]), "P:10: no more is shown; is written: router R2 rank 2 path R2 P2"),
+    (SAID + GO + "Again:\n\n" + GO, "P:8: cd examples/two-exits: ends with status 2: "),
+    (SAID + block("./propane version", "exit 3"), "P:4: exit 3: has not ended"),
 ]
 
 

@@ -21,6 +21,7 @@ Table master4:
 """
 OWN = "198.51.100.0/24      blackhole [own 08:41:12.001] * (200)\n\tType: static univ\n\tBGP.large_community: (64512, 0, 1)\n"
 PLAIN = {"aspath": {"segments": [{"type": "as-sequence", "list": [64513, 1002]}]}, "bestpath": {"overall": True}}
+OPEN = {"prefix": "198.51.100.0/24", "aspath": "64513 1002 3356", "best": True, "localpref": 100, "large_communities": ["64512:0:2"]}
 ROUTE = '{"path":["R1","R2","P2"],"pref":100,"tag":[64512,2]}'
 
 # What is recorded of R1, R2 being dead, and the entry of R1.
@@ -36,6 +37,11 @@ READ = [
     (".frr", PLAIN | {"locPrf": 7}, '{"path":["R1","R2","P2"],"pref":7,"tag":[0,0]}'),
     (".frr", PLAIN | {"largeCommunity": {"list": ["64512:0:9"]}}, '{"path":["R1","R2","P2"],"pref":100,"tag":[64512,9]}'),
     (".frr", PLAIN | {"aspath": {"segments": [], "length": 0}}, '{"path":["R1"],"pref":0,"tag":[0,0]}'),
+    (".openbgpd", "{\n\n}\n", "null"),
+    (".openbgpd", OPEN, ROUTE),
+    (".openbgpd", OPEN | {"aspath": "64513 1002 { 174 701 }"}, ROUTE),
+    (".openbgpd", OPEN | {"aspath": "", "localpref": 4294967295}, '{"path":["R1"],"pref":0,"tag":[64512,2]}'),
+    (".openbgpd", {name: OPEN[name] for name in OPEN if name != "large_communities"}, ROUTE.replace("[64512,2]", "[0,0]")),
     (".dead", "", "null"),
 ]
 # What isn't an answer, and why.
@@ -72,6 +78,15 @@ REFUSED = [
     (".frr", PLAIN | {"locPrf": -1}, "no local preference: -1"),
     (".frr", PLAIN | {"largeCommunity": {"list": ["64512:0"]}}, "FRR's answer has large communities that aren't read here"),
     (".frr", PLAIN | {"largeCommunity": {"list": ["64512:0:x"]}}, "'x' is no number of four octets"),
+    (".openbgpd", "unknown argument: selected\n", "that is no JSON, as OpenBGPD's answer is"),
+    (".openbgpd", "[]", "OpenBGPD's answer is an object"),
+    (".openbgpd", '{"neighbors":[]}', "OpenBGPD's answer has no rib that is read here"),
+    (".openbgpd", '{"rib":[]}', "OpenBGPD's answer has 0 routes, and 0 best ones: ask for `selected`"),
+    (".openbgpd", OPEN | {"best": 1}, "OpenBGPD's answer has 1 routes, and 0 best ones: ask for `selected`"),
+    (".openbgpd", OPEN | {"aspath": None}, "OpenBGPD's answer has no aspath that is read here"),
+    (".openbgpd", OPEN | {"aspath": "64999"}, "no AS number of the topology: 64999"),
+    (".openbgpd", OPEN | {"localpref": -1}, "no local preference: -1"),
+    (".openbgpd", OPEN | {"large_communities": ["64512:0"]}, "OpenBGPD's answer has large communities that aren't read here"),
     (".dead", "down\n", "a file .dead is empty"),
 ]
 
@@ -93,9 +108,9 @@ class Tables(unittest.TestCase):
         self.folder = room.name
 
     def record(self, name, answer):
-        """Writes an answer; one path of FRR as its whole answer."""
+        """Writes an answer; one path of FRR, and one route of OpenBGPD, as the whole answer."""
         if isinstance(answer, dict):
-            answer = json.dumps({"prefix": "198.51.100.0/24", "paths": [answer]})
+            answer = json.dumps({"rib": [answer]} if name.endswith(".openbgpd") else {"prefix": "198.51.100.0/24", "paths": [answer]})
         with open(os.path.join(self.folder, name), "wb") as file:
             file.write(answer if isinstance(answer, bytes) else answer.encode())
 
@@ -104,7 +119,7 @@ class Tables(unittest.TestCase):
             wanted = file.read()
         words = [os.path.join(TOP, "tools", "tables"), self.topology]
         self.assertEqual(ended([*words, os.path.join(EXAMPLE, "recorded")]), (0, wanted, ""))
-        self.assertEqual(ended([*words, self.folder]), (1, "", "tables: R1: no file .bird, .frr or .dead\n"))
+        self.assertEqual(ended([*words, self.folder]), (1, "", "tables: R1: no file .bird, .frr, .openbgpd or .dead\n"))
         with open("/dev/full", "wb") as full:
             status, _, said = ended([*words, os.path.join(EXAMPLE, "recorded")], stdout=full)
         self.assertEqual((status, said), (1, "tables: No space left on device\n"))
@@ -128,7 +143,7 @@ class Tables(unittest.TestCase):
 
     def test_files(self):
         self.record("R1.bird", BIRD)
-        self.assertEqual(made(self.topology, self.folder), ("", "R2: no file .bird, .frr or .dead"))
+        self.assertEqual(made(self.topology, self.folder), ("", "R2: no file .bird, .frr, .openbgpd or .dead"))
         self.record("R2.frr", "{}")
         self.record("R2.bird", "Network not found\n")
         self.assertEqual(made(self.topology, self.folder), ("", "R2: both R2.bird and R2.frr are there"))

@@ -8,7 +8,7 @@ from gate import packages
 
 TOOLS = os.path.join(TOP, "tools")
 MYPY, PYFLAKES = {"mypy": "mypy"}, {"pyflakes3": "pyflakes3"}
-TYPED = ("texts", "deploying", "laboratory", "reasons", "words", "gate", "opening", "reports", "expecting", "exchange", "watching")  # the packages with types
+TYPED = ("texts", "deploying", "laboratory", "reasons", "words", "gate", "opening", "reports", "expecting", "exchange", "watching", "rolling")  # the packages with types
 UNTRIED = "Whether the types of the scripts fit, and whether they name what isn't there, was not tried."
 
 

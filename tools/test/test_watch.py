@@ -56,11 +56,15 @@ class Watch(unittest.TestCase):
         topology, policy = (os.path.join(EXAMPLE, name) for name in ("topology.json", "policy.propane"))
         with open(topology, encoding="utf-8") as file:
             network = Topology(file.read())
-        words = {"R1": {"bird": [fake, self.home("R1")]}, "R2": {"frr": [fake, self.home("R2")]}}
         work = os.path.join(self.folder, "work")
         os.mkdir(work)
-        self.watcher = Watcher(network, Recorder(topology, network, read_routers(json.dumps(words), network), [PREFIX], work),
-                               Auditor(PROGRAM, topology, policy, work))
+
+        def watcher(daemon):
+            words = {"R1": {"bird": [fake, self.home("R1")]}, "R2": {daemon: [fake, self.home("R2")]}}
+            return Watcher(network, Recorder(topology, network, read_routers(json.dumps(words), network), [PREFIX], work),
+                           Auditor.compiled(PROGRAM, topology, policy, work))
+
+        self.watcher, self.with_openbgpd = watcher("frr"), watcher("openbgpd")
         self.well()
 
     def home(self, router):
@@ -82,6 +86,13 @@ class Watch(unittest.TestCase):
         self.answer("R2", f"show bgp ipv4 unicast {PREFIX} bestpath json", frr_route(path, pref, tag))
         heard = {"prefix": PREFIX, "paths": [{"aspath": {"segments": [{"type": "as-sequence", "list": each}]}} for each in (path, [1002])]}
         self.answer("R2", f"show bgp ipv4 unicast {PREFIX} json", json.dumps(heard))
+
+    def r2_as_openbgpd(self, sessions, path, pref, tag):
+        peers = [{"remote_as": str(asn), "state": "Established" if is_up else "Active"} for asn, is_up in sessions.items()]
+        self.answer("R2", "-j show neighbor", json.dumps({"neighbors": peers}))
+        best = {"prefix": PREFIX, "aspath": " ".join(map(str, path)), "best": True, "localpref": pref, "large_communities": [f"{tag[0]}:0:{tag[1]}"]}
+        self.answer("R2", f"-j show rib selected detail {PREFIX}", json.dumps({"rib": [best]}))
+        self.answer("R2", f"-j show rib detail {PREFIX}", json.dumps({"rib": [best, {"prefix": PREFIX, "aspath": "1002"}]}))
 
     def well(self):
         self.r1({64513: True, 1001: True}, [1001], 101, (64512, 1))
@@ -126,6 +137,17 @@ class Watch(unittest.TestCase):
         self.r2({64512: False, 1002: True}, [1002], 100, (64513, 1))
         self.assertEqual(rounds(5), ["router R1: is down, was doesn't answer", f"{PREFIX}: stable, was not audited: R1 doesn't answer",
                                      f"{PREFIX} router R1: dead, was rank 1 path R1 P1", f"{PREFIX} router R2: rank 2 path R2 P2, was rank 1 path R2 R1 P1"])
+
+    def test_openbgpd(self):
+        rounds = self.with_openbgpd.round
+        self.r2_as_openbgpd({64512: True, 1002: True}, [64512, 1001], 101, (64513, 2))
+        self.assertEqual(rounds(5), [f"{PREFIX}: stable", f"{PREFIX} router R1: rank 1 path R1 P1", f"{PREFIX} router R2: rank 1 path R2 R1 P1"])
+        self.r2_as_openbgpd({64512: True, 1002: True}, [64512, 1001], 99, (64513, 2))
+        self.assertEqual(rounds(5), [f"{PREFIX}: unstable router R2 not-given, was stable"])
+        self.r2_as_openbgpd({64512: True, 1002: False}, [64512, 1001], 101, (64513, 2))
+        self.assertEqual(rounds(5), ["session R2 P2: is down", f"{PREFIX}: stable, was unstable router R2 not-given"])
+        self.answer("R2", "-j show neighbor", "bgpctl: connect: no such file\n")
+        self.assertEqual(rounds(5)[0], "router R2: doesn't answer")
 
     def test_silent(self):
         """A peer that announces nothing is told."""

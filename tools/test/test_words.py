@@ -2,12 +2,13 @@
 import os
 import pty
 import re
+import sys
 import tempfile
 import unittest
 
 from common import PROGRAM, TOP, ended
 from texts import json_places
-from words.hints import hints_for
+from words.hints import hints_for, places_for
 from words.requests import ordinal
 
 NET = """{"links":[["A","B"],["B","ISP"]],
@@ -16,6 +17,10 @@ NET = """{"links":[["A","B"],["B","ISP"]],
             {"asn":64513,"id":"10.255.0.2","name":"B"}]}
 """
 POLICY = "originate 10.0.1.0/24 at A;\n10.0.1.0/24 => any;\ntrue => exit(ISP);\n"
+
+
+# What `lint` finds where a statement for all prefixes, with a rank that no path has, stands above one for a single prefix.
+FOUND = ["unused group G", "covered statement 2", "unreached statement 1 alternative 2"]
 
 
 def many(kind, count):
@@ -220,6 +225,30 @@ class Words(unittest.TestCase):
         self.assertEqual(status, 1)
         self.ask(lines, "3:1", None, "Case 1: this statement, for 10.0.1.0/24, from D.")
         self.assertIn("REFUTATIONS.md", lines[-1])
+
+    def test_findings(self):
+        """Behind a report of `lint` each statement that it names is shown once, with what is found of it."""
+        self.write("text", "define G = {A};\ntrue => exit(ISP) >> exit(A);\n10.0.1.0/24 => any;\n")
+        status, report, _ = ended([PROGRAM, "lint", "net.json", "text"], text=False)
+        self.assertEqual((status, report.decode().split("\n")[:-2]), (0, FOUND))
+        lines = places_for(report, ["lint", "net.json", "text"])
+        self.assertEqual(lines, [
+            "  text:2:1",
+            "    2 | true => exit(ISP) >> exit(A);",
+            "      | ^^^^^^^^^^^^^^^^^^^^^^^^^^^^^",
+            "  Statement 1. No path that it permits has rank 2.",
+            "  text:3:1",
+            "    3 | 10.0.1.0/24 => any;",
+            "      | ^^^^^^^^^^^^^^^^^^^",
+            "  Statement 2. Earlier statements govern each prefix that its patterns contain.",
+        ])
+        for words in ["lint", "net.json"], ["compile", "net.json", "text"], ["lint", "net.json", "none"]:
+            self.assertEqual(places_for(report, words), [])
+        self.assertEqual(places_for(b"covered statement 3\nfindings 1\n", ["lint", "net.json", "text"]), [])
+        run = [sys.executable, os.path.join(TOP, "tools", "front"), PROGRAM, "lint", "net.json", "text"]
+        for hints, said in ("on", "".join(f"{line}\n" for line in lines)), ("off", ""):
+            found = ended(run, text=False, env={**os.environ, "PROPANE_HINTS": hints})
+            self.assertEqual((found[0], found[1], found[2].decode()), (0, report, said))
 
     def test_other_texts(self):
         for row, (command, text, line, place, wanted) in enumerate(OTHERS):

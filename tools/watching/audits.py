@@ -24,29 +24,35 @@ class Verdict:
     fields: tuple[Fields, ...] = field(default=(), compare=False)
 
 
-class Auditor:
-    """Audits moments of a network with one policy. The configuration and its evidence are made once."""
+def asked(program: str, *words: str) -> tuple[int, str]:
+    """How the program ends where it says something, and what it says."""
+    try:
+        ran = subprocess.run([program, *words], stdin=subprocess.DEVNULL, capture_output=True, text=True)
+    except OSError as why:
+        raise Ended(NO_PROGRAM, f"the program can't be run: {why.strerror}") from None
+    if ran.returncode not in (DONE, CHECK_FAILS):
+        raise Ended(ran.returncode if ran.returncode > 0 else NO_PROGRAM, ran.stderr.rstrip("\n"))
+    return ran.returncode, ran.stdout
 
-    def __init__(self, program: str, topology: str, policy: str, folder: str) -> None:
-        self.program, self.topology, self.policy, self.folder = program, topology, policy, folder
-        for command, name in (("compile", "config"), ("evidence", "evidence.json")):
-            self.write(name, self.asked(command, topology, policy)[1])
+
+class Auditor:
+    """Audits moments of a network: the files of its topology, policy, configuration and evidence. In the folder is what is asked."""
+
+    def __init__(self, program: str, texts: Sequence[str], folder: str) -> None:
+        self.program, self.texts, self.folder = program, texts, folder
+
+    @staticmethod
+    def compiled(program: str, topology: str, policy: str, folder: str) -> Auditor:
+        """One for what is compiled of a policy."""
+        auditor = Auditor(program, (), folder)
+        made = [auditor.write(name, asked(program, command, topology, policy)[1]) for command, name in (("compile", "config"), ("evidence", "evidence.json"))]
+        return Auditor(program, (topology, policy, *made), folder)
 
     def write(self, name: str, text: str) -> str:
         path = os.path.join(self.folder, name)
         with open(path, "w", encoding="utf-8") as file:
             file.write(text)
         return path
-
-    def asked(self, *words: str) -> tuple[int, str]:
-        """How the program ends where it says something, and what it says."""
-        try:
-            ran = subprocess.run([self.program, *words], stdin=subprocess.DEVNULL, capture_output=True, text=True)
-        except OSError as why:
-            raise Ended(NO_PROGRAM, f"the program can't be run: {why.strerror}") from None
-        if ran.returncode not in (DONE, CHECK_FAILS):
-            raise Ended(ran.returncode if ran.returncode > 0 else NO_PROGRAM, ran.stderr.rstrip("\n"))
-        return ran.returncode, ran.stdout
 
     def verdicts(self, moment: Moment, prefixes: Sequence[str]) -> dict[str, Verdict]:
         """The verdict on each prefix."""
@@ -55,8 +61,7 @@ class Auditor:
     def verdict(self, moment: Moment, prefix: str) -> Verdict:
         if moment.faults[prefix]:
             return Verdict(f"not audited: {moment.faults[prefix]}")
-        config, evidence = (os.path.join(self.folder, name) for name in ("config", "evidence.json"))
         scenario = self.write("scenario.json", moment.scenario(prefix).text())
-        status, text = self.asked("audit", self.topology, self.policy, config, evidence, scenario, self.write("tables.json", moment.tables[prefix]))
+        status, text = asked(self.program, "audit", *self.texts, scenario, self.write("tables.json", moment.tables[prefix]))
         first, *report = text.splitlines()
         return Verdict(first, status == DONE, tuple(report), tuple(document_of("audit", status, text)["lines"]))

@@ -18,7 +18,7 @@ from texts.prefixes import is_prefix
 from texts.statuses import BAD_INPUT, DONE, READ_FAULT
 from texts.topology import Topology
 
-from .audits import Auditor
+from .audits import Auditor, asked
 from .moment import Recorder
 from .routers import read_routers
 from .told import Facts, changes, facts_of, kept, metrics, put
@@ -70,8 +70,8 @@ def watch(words: argparse.Namespace, folder: str) -> int:
     topology = Topology(read_text(words.topology))
     routers = read_routers(read_text(words.routers), topology)
     program, texts = found(), [os.path.abspath(words.topology), os.path.abspath(words.policy)]
-    auditor = Auditor(program, texts[0], texts[1], folder)
-    prefixes = words.prefix or asked_prefixes(read_maps(topology, auditor.asked("routemap", *texts)[1]))
+    auditor = Auditor.compiled(program, texts[0], texts[1], folder)
+    prefixes = words.prefix or asked_prefixes(read_maps(topology, asked(program, "routemap", *texts)[1]))
     recorder = Recorder(texts[0], topology, routers, prefixes, folder)
     say(f"watches routers {len(routers)} prefixes {len(prefixes)}: {' '.join(prefixes)}", words.once)
     watcher = Watcher(topology, recorder, auditor)

@@ -1,7 +1,10 @@
 """How each router is asked: the text ROUTERS, and what the daemons answer of their sessions.
 
-    {"R1": {"bird": ["ssh", "R1", "birdc"]},
-     "R2": {"frr": ["ssh", "R2", "vtysh"]}}
+    {"R1": {"bird": ["ssh", "R1", "birdc"], "get": ["ssh", "R1", "cat /etc/bird/bird.conf"], "put": ["ssh", "R1", "cat > /etc/bird/bird.conf"]},
+     "R2": {"frr": ["ssh", "R2", "vtysh"], "put": ["ssh", "R2", "cat > /etc/frr/frr.conf"]},
+     "R3": {"openbgpd": ["ssh", "R3", "bgpctl"]}}
+
+`get` and `put` are how the file is had and put with which a router begins; who only watches needs neither.
 """
 from __future__ import annotations
 
@@ -29,11 +32,13 @@ class Silent(Exception):
 
 @dataclass(frozen=True)
 class Router:
-    """A router, its daemon (`bird` or `frr`), and the words that ask it; what is asked comes behind them."""
+    """A router, its daemon (`bird`, `frr` or `openbgpd`), and the words that ask it; what is asked comes behind them. `get` and `put` may be empty."""
 
     name: str
     daemon: str
     words: tuple[str, ...]
+    get: tuple[str, ...] = ()
+    put: tuple[str, ...] = ()
 
     @property
     def ending(self) -> str:
@@ -42,9 +47,9 @@ class Router:
 
     def ask(self, question: str) -> str:
         """The answer to a question. A shell far away takes words apart, so it gets them quoted."""
+        asked = ["-c", question] if self.daemon == "frr" else question.split()
         is_far = os.path.basename(self.words[0]) == "ssh"
-        said = shlex.quote(question) if is_far else question
-        words = [*self.words, "-c", said] if self.daemon == "frr" else [*self.words, *question.split()]
+        words = [*self.words, *(map(shlex.quote, asked) if is_far else asked)]
         try:
             ran = subprocess.run(words, stdin=subprocess.DEVNULL, capture_output=True, timeout=SLOW)
         except (OSError, subprocess.TimeoutExpired) as why:
@@ -58,6 +63,8 @@ class Router:
         """What is recorded of its route to a prefix."""
         if self.daemon == "bird":
             return self.ask(f"show route {prefix} all primary")
+        if self.daemon == "openbgpd":
+            return self.ask(f"-j show rib selected detail {prefix}")
         return self.ask(f"show bgp ipv4 unicast {prefix} bestpath json")
 
     def heard_of(self, prefix: str) -> set[int]:
@@ -65,6 +72,10 @@ class Router:
         if self.daemon == "bird":
             paths = re.findall(r"BGP\.as_path:\s*([0-9]+)", self.ask(f"show route {prefix} all"))
             return set(map(int, paths))
+        if self.daemon == "openbgpd":
+            routes = json_of(self.ask(f"-j show rib detail {prefix}")).get("rib", [])
+            paths = [str(route.get("aspath", "")).split() for route in routes if isinstance(route, dict)]
+            return {int(path[0]) for path in paths if path and path[0].isdigit()}
         value = json_of(self.ask(f"show bgp ipv4 unicast {prefix} json"))
         found = set()
         for path in value.get("paths", []):
@@ -77,19 +88,22 @@ class Router:
         """The AS numbers of the neighbours with which a session is established."""
         if self.daemon == "bird":
             return established_in(self.ask("show protocols all"))
+        if self.daemon == "openbgpd":
+            neighbours = json_of(self.ask("-j show neighbor")).get("neighbors", [])
+            return {int(each["remote_as"]) for each in neighbours if isinstance(each, dict) and each.get("state") == "Established"}
         value = json_of(self.ask("show bgp ipv4 unicast summary json"))
         peers = value.get("ipv4Unicast", value).get("peers", {})
         return {peer["remoteAs"] for peer in peers.values() if isinstance(peer, dict) and peer.get("state") == "Established"}
 
 
 def json_of(text: str) -> dict[str, Any]:
-    """The object of FRR's answer."""
+    """The object of an answer of FRR or OpenBGPD."""
     try:
         value = json.loads(text)
     except ValueError:
         value = None
     if not isinstance(value, dict):
-        raise Silent("that is no object of JSON, as FRR's answer is")
+        raise Silent("that is no object of JSON, as the daemon's answer is")
     return value
 
 
@@ -113,10 +127,12 @@ def read_routers(text: str, topology: Topology) -> list[Router]:
     found = []
     for name in (site.name for site in topology.routers):
         entry = value[name]
-        if not isinstance(entry, dict) or len(entry) != 1 or next(iter(entry)) not in ("bird", "frr"):
-            raise Fault(f"routers: {name}: an object of `bird` or `frr`")
-        daemon, words = next(iter(entry.items()))
-        if not isinstance(words, list) or not words or not all(isinstance(word, str) and word for word in words):
-            raise Fault(f"routers: {name}: `{daemon}` is an array of the words of a command")
-        found.append(Router(name, daemon, tuple(words)))
+        kinds = [key for key in entry if key in ("bird", "frr", "openbgpd")] if isinstance(entry, dict) else []
+        if len(kinds) != 1 or not set(entry) <= {kinds[0], "get", "put"}:
+            raise Fault(f"routers: {name}: an object of `bird`, `frr` or `openbgpd`, and perhaps `get` and `put`")
+        for key, words in entry.items():
+            if not isinstance(words, list) or not words or not all(isinstance(word, str) and word for word in words):
+                raise Fault(f"routers: {name}: `{key}` is an array of the words of a command")
+        get, put = (tuple(entry.get(key, ())) for key in ("get", "put"))
+        found.append(Router(name, kinds[0], tuple(entry[kinds[0]]), get, put))
     return found

@@ -16,7 +16,7 @@ from texts.policy import Statement
 from texts.prefixes import is_prefix
 from texts.statuses import BAD_INPUT, CHECK_FAILS, NO_MEMORY, READ_FAULT, REFUSED, USAGE, WRITE_FAULT
 
-from . import policies, refusals, requests, topologies
+from . import findings, policies, refusals, requests, topologies
 from .near import near
 from .places import Text, plain, text_of
 from .said import NOTHING, Hint, said
@@ -25,11 +25,12 @@ WIDTH = 80
 # What the fault of a text is called, and the word that names such a text in the usage line.
 KINDS = {
     "topology": "TOPO", "policy": "POLICY", "config": "CONFIG", "evidence": "EVIDENCE", "scenario": "SCENARIO", "events": "EVENTS",
-    "tables": "TABLES", "maps": "MAPS",
+    "tables": "TABLES", "maps": "MAPS", "before config": "BEFORE", "after config": "AFTER",
 }
 CALLED = {
     "TOPO": "a topology", "POLICY": "a policy", "CONFIG": "a configuration", "EVIDENCE": "evidence", "SCENARIO": "a scenario",
     "EVENTS": "events", "TABLES": "tables", "MAPS": "route maps",
+    "BEFORE": "a configuration", "AFTER": "a configuration",
 }
 JSON_KEYS = {
     "TOPO": {"routers", "peers", "links"}, "EVIDENCE": {"cases", "version"}, "EVENTS": {"prefix", "events"}, "TABLES": {"routes"},
@@ -73,7 +74,7 @@ def kind_of(text: Text) -> str | None:
 def changed_round(command: str, kinds: Sequence[str], texts: Mapping[int, Text]) -> Hint | None:
     """What is to be said where texts stand in each other's place."""
     seems = {place: kind_of(text) for place, text in texts.items()}
-    wrong = {place: kind for place, kind in seems.items() if kind and kind != kinds[place]}
+    wrong = {place: kind for place, kind in seems.items() if kind and CALLED[kind] != CALLED[kinds[place]]}
     words = f"The words of {command} are {' '.join(kinds)}."
     if len(wrong) > 1 and sorted(wrong.values()) == sorted(kinds[place] for place in wrong):
         names = " and ".join(texts[place].name() for place in wrong)
@@ -103,6 +104,8 @@ def usage_hint(program: str, words: Sequence[str]) -> Hint:
     for kind, word in zip(kinds, given):
         if kind == "PREFIX" and not is_prefix(word):
             return said(f"{plain(word)} is no prefix. {policies.prefix_words(word)}")
+        if kind == "STAGE" and word not in ("1", "2"):
+            return said(f"{plain(word)} is no stage: 1 or 2.")
         if command == "sample" and kind == "N":
             return said(f"{plain(word)} is no number from 2 to 96.")
         if kind == "[COMMAND]" and word not in known:
@@ -126,7 +129,7 @@ def unread(word: str) -> Hint:
 
 def bad_input(line: str, command: str, kinds: Sequence[str], texts: Mapping[int, Text]) -> Hint:
     """The fault of a text."""
-    found = re.fullmatch(r"propane: (\w+) \d+ ([\w-]+)(?: (.*))?", line)
+    found = re.fullmatch(r"propane: ((?:before |after )?\w+) \d+ ([\w-]+)(?: (.*))?", line)
     if not found:
         return said("A text has at most 33,554,432 bytes.") if line.startswith("propane: too long ") else NOTHING
     of, word, values = found[1], found[2], (found[3] or "").split()
@@ -186,7 +189,7 @@ def told(program: str, status: int, output: bytes, words: Sequence[str]) -> Hint
         return NOTHING
     command, kinds = words[0], usage(program).get(words[0], [])
     if status == CHECK_FAILS:
-        page = {"audit": ("AUDIT.md", ""), "checkmap": ("FORMATS.md", "The verdict on maps")}
+        page = {"audit": ("AUDIT.md", ""), "checkmap": ("FORMATS.md", "The verdict on maps"), "between": ("FORMATS.md", "What is in the way")}
         return NOTHING.seeing(*page.get(command, ("EVIDENCE.md", "The ten rules")))
     found = {place: text_of(word) for place, (kind, word) in enumerate(zip(kinds, words[1:])) if kind in CALLED}
     texts = {place: text for place, text in found.items() if text}
@@ -204,3 +207,10 @@ def narrow(line: str) -> list[str]:
 def hints_for(program: str, status: int, output: bytes, words: Sequence[str]) -> list[str]:
     """The lines that stand behind the program's own."""
     return [each for line in told(program, status, output, words).lines() for each in narrow(line)]
+
+
+def places_for(report: bytes, words: Sequence[str]) -> list[str]:
+    """The lines that stand behind a report of `lint`: where the statements stand that it names. None behind other reports."""
+    text = text_of(words[2]) if words[:1] == ["lint"] and len(words) == 3 else None
+    found = findings.hints(report.decode("utf-8", "replace"), text) if text else []
+    return [each for hint in found for line in hint.lines() for each in narrow(line)]

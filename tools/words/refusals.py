@@ -27,7 +27,7 @@ MEANING = {
         "Allow the second walk there, or say by `from` that {0} is no source."],
     "no-evidence": ["No preferences meet the compiler's rules: of the nodes at {0} to which the walks lead, no order will do.",
         "`explain` shows line by line which nodes are in each other's way; rank fewer things, or rank them alike at all routers."],
-    "too-many-lines": ["The route maps would have {0} lines, and 1,000,000 are the most.", "Fewer patterns that overlap make fewer lines."],
+    "too-many-lines": ["The text would have {0} lines, and 1,000,000 are the most.", "Fewer patterns that overlap make fewer lines."],
 }
 
 

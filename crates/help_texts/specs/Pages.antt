@@ -2,13 +2,13 @@
 use Rattle.std.specs.Prelude.{ℕ, List, [], ◌∷◌, Option, Some, None, codes}
 use Rattle.std.specs.List.{find}
 use Rattle.std.specs.Str.{bytes_eq}
-use Rattle.help_texts.specs.declared.pages.compiling.TheConstants.{COMPILE, EVIDENCE, MAPS, MIGRATE, ROUTEMAP, SAMPLE}
+use Rattle.help_texts.specs.declared.pages.compiling.TheConstants.{BETWEEN, COMPILE, EVIDENCE, MAPS, MIGRATE, RENEW, RENEWAL, ROUTEMAP, SAMPLE}
 use Rattle.help_texts.specs.declared.pages.judging.TheConstants.{AUDIT, CHECK, CHECKMAP, EXPLAIN, LINT}
 use Rattle.help_texts.specs.declared.pages.program.TheConstants.{COMMANDS, HELP, USAGE, VERSION, VERSION_PAGE}
-use Rattle.help_texts.specs.declared.pages.telling.TheConstants.{DRAIN, IMPACT, MULTIPATH, PROMISES, REPLAY, SETTLE, TRACE, WHATIF}
+use Rattle.help_texts.specs.declared.pages.telling.TheConstants.{DRAIN, IMPACT, MULTIPATH, PROMISES, REPLAY, SETTLE, TRACE, WAITING, WHATIF}
 use Rattle.help_texts.specs.declared.topic.Topic.{Topic}
 use Rattle.help_texts.specs.declared.topic.Topic.TheVariants.{Compile, Evidence, Check, Explain, Replay, Trace, Sample, Migrate, Impact, RouteMap, CheckMap, Lint, Audit}
-use Rattle.help_texts.specs.declared.topic.Topic.TheVariants.{Help, Version, Drain, Settle, Promises, WhatIf, Multipath, Maps}
+use Rattle.help_texts.specs.declared.topic.Topic.TheVariants.{Help, Version, Drain, Settle, Promises, WhatIf, Multipath, Maps, Between, Renew, Renewal, Waiting}
 
 -- the word of a command
 abbrev pub word_of : Topic → List ℕ
@@ -33,12 +33,16 @@ word_of Promises = codes "promises"
 word_of WhatIf = codes "whatif"
 word_of Multipath = codes "multipath"
 word_of Maps = codes "maps"
+word_of Between = codes "between"
+word_of Renew = codes "renew"
+word_of Renewal = codes "renewal"
+word_of Waiting = codes "waiting"
 
 -- all commands
 abbrev pub topics : List Topic
 topics =
     Compile ∷ Evidence ∷ Check ∷ Explain ∷ Replay ∷ Trace ∷ Sample ∷ Migrate ∷ Impact ∷ RouteMap ∷ CheckMap ∷ Lint ∷ Audit
-    ∷ Help ∷ Version ∷ Drain ∷ Settle ∷ Promises ∷ WhatIf ∷ Multipath ∷ Maps ∷ []
+    ∷ Help ∷ Version ∷ Drain ∷ Settle ∷ Promises ∷ WhatIf ∷ Multipath ∷ Maps ∷ Between ∷ Renew ∷ Renewal ∷ Waiting ∷ []
 
 -- the command of this word
 abbrev pub topic_named : List ℕ → Option Topic
@@ -67,6 +71,10 @@ page_of Promises = PROMISES.now
 page_of WhatIf = WHATIF.now
 page_of Multipath = MULTIPATH.now
 page_of Maps = MAPS.now
+page_of Between = BETWEEN.now
+page_of Renew = RENEW.now
+page_of Renewal = RENEWAL.now
+page_of Waiting = WAITING.now
 
 -- what is said of one command, or of all
 abbrev pub help_text : Option Topic → List ℕ

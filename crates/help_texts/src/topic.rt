@@ -49,6 +49,14 @@ pub enum Topic {
     Multipath,
     /// `maps`.
     Maps,
+    /// `between`.
+    Between,
+    /// `renew`.
+    Renew,
+    /// `renewal`.
+    Renewal,
+    /// `waiting`.
+    Waiting,
 }
 
 impl Topic {
@@ -78,6 +86,10 @@ impl Topic {
             "whatif" => Some(Topic::WhatIf),
             "multipath" => Some(Topic::Multipath),
             "maps" => Some(Topic::Maps),
+            "between" => Some(Topic::Between),
+            "renew" => Some(Topic::Renew),
+            "renewal" => Some(Topic::Renewal),
+            "waiting" => Some(Topic::Waiting),
             _ => None,
         }
     }
@@ -108,6 +120,10 @@ impl Topic {
             Topic::WhatIf => pages::WHATIF,
             Topic::Multipath => pages::MULTIPATH,
             Topic::Maps => pages::MAPS,
+            Topic::Between => pages::BETWEEN,
+            Topic::Renew => pages::RENEW,
+            Topic::Renewal => pages::RENEWAL,
+            Topic::Waiting => pages::WAITING,
         }
     }
 }

@@ -133,7 +133,7 @@ module _ (net : PlainNet) (policy : PlainPolicy) (config : PlainConfig) (p : Pla
   abbrev pub whole_length : FullRoute → ℕ
   whole_length t = length (t.route.path ++ t.behind)
 
-  -- a higher preference, or the same and fewer AS numbers
+  -- A higher preference, or the same and fewer AS numbers. RFC 4271, section 9.1.2 and the first step of section 9.1.2.2.
   abbrev pub comes_before : FullRoute → FullRoute → Bool
   comes_before x y = nat_lt y.route.pref x.route.pref || (x.route.pref == y.route.pref && nat_lt (whole_length x) (whole_length y))
 
@@ -151,6 +151,7 @@ module _ (net : PlainNet) (policy : PlainPolicy) (config : PlainConfig) (p : Pla
   gives_it w r u = is_top w r u && same_route (gift w r u) (w.route r)
 
   -- The present route is among the first, and nothing has been heard since the last choice from a neighbour that gives one of them.
+  -- RFC 5004 keeps the present route so, and RFC 4271's later steps may, too: any step that doesn't let go of a tied route without news.
   abbrev pub holds_on : Motion → ℕ → Bool
   holds_on w r = list_any (gives_it w r) (neighbours net r) && not (list_any (λ u. is_top w r u && w.news u r) (neighbours net r))
 

@@ -58,6 +58,7 @@ abbrev pub route_at : Outcome → ℕ → Option Route
 route_at outcome r = option_and_then (λ o. o) (slice_get outcome r)
 
 -- what a neighbour sends over a live session: the path that begins with it and the tag
+-- RFC 4271, section 9.1.3: a speaker advertises the route of its Loc-RIB; section 5.1.2: with its own number in front of AS_PATH.
 abbrev pub sent : PlainNet → PlainPolicy → PlainConfig → Failures → PlainPrefix → Outcome → ℕ → ℕ → Option (List ℕ × Tag)
 sent net policy config f p outcome from to =
     if is_peer net from
@@ -69,6 +70,7 @@ sent net policy config f p outcome from to =
     tagged h (Some tag) = Some (h.path, tag)
 
 -- the route that a neighbour gives a router, if it gives one
+-- RFC 4271, section 9.1.1: the local policy of the router that receives a route gives it a LOCAL_PREF, or makes it ineligible.
 abbrev pub given : PlainNet → PlainPolicy → PlainConfig → Failures → PlainPrefix → Outcome → ℕ → ℕ → Option Route
 given net policy config f p outcome from to =
     if is_live net f from to
@@ -80,17 +82,20 @@ given net policy config f p outcome from to =
     held s (Some line) = Some (record { path = to ∷ s.0; tag = line.0; pref = line.1 })
 
 -- A router's choice: among what it's given, with no higher preference given, and none only where nothing is.
+-- RFC 4271, section 9.1.2: the route with the highest degree of preference; what section 9.1.2.2 breaks ties by is left open.
 pub record Chooses (net : PlainNet) (policy : PlainPolicy) (config : PlainConfig) (f : Failures) (p : PlainPrefix) (outcome : Outcome) (r : ℕ) : Type 0 where
   pub given_by : (h : Route) → route_at outcome r ≡ Some h → (z : ℕ) × (given net policy config f p outcome z r ≡ Some h)
   pub best : (z : ℕ) (g : Route) → given net policy config f p outcome z r ≡ Some g → (h : Route) × (route_at outcome r ≡ Some h) × (g.pref ≤ h.pref)
 
 -- No router would choose again. Ties are free.
+-- RFC 4271, section 9.1: the decision process has nothing to do at any router. A route of one's own isn't chosen among others.
 pub record IsStable (net : PlainNet) (policy : PlainPolicy) (config : PlainConfig) (f : Failures) (p : PlainPrefix) (outcome : Outcome) : Type 0 where
   pub dead : (r : ℕ) → IsTrue (is_dead f r) → route_at outcome r ≡ None
   pub own : (r : ℕ) → IsTrue (is_router net r && is_origin net policy p r && not (is_dead f r)) → route_at outcome r ≡ Some (own_route net config p r)
   pub chooses : (r : ℕ) → IsTrue (is_router net r && not (is_origin net policy p r) && not (is_dead f r)) → Chooses net policy config f p outcome r
 
 -- the path that a peer is offered over the session of a router
+-- RFC 4271, section 9.1.2: a peer excludes a route whose AS_PATH has its own number, so such a one isn't offered to it.
 abbrev pub offered : PlainNet → PlainPolicy → PlainConfig → Failures → PlainPrefix → Outcome → ℕ → ℕ → Option (List ℕ)
 offered net policy config f p outcome r peer =
     if is_live net f r peer && is_router net r && is_peer net peer

@@ -1,6 +1,6 @@
 -- What the graph of pairs is, once all of them were asked.
 use Rattle.std.proofs.Common.{◌≡◌, ℕ, ◌<◌, ◌≤◌, true, false, List, [], ◌∷◌, length, Option, Some, None, refl, sym, ap, ◌∙◌, arith, inl, inr}
-use Rattle.std.specs.Prelude.{◌&&◌, ◌==◌, slice_get, unwrap_or}
+use Rattle.std.specs.Prelude.{◌&&◌, ◌==◌, IsTrue, slice_get, unwrap_or}
 use Rattle.std.specs.Option.{option_and_then, option_map}
 use Rattle.std.proofs.lemmas.Bool.{and_from, both_ways, cases_Bool, cases_lt, eq-eqb}
 use Rattle.std.proofs.lemmas.List.{length-map}
@@ -13,7 +13,7 @@ use Rattle.list_law.proofs.Tests.{find_from}
 use Rattle.net_base.proofs.NumbersBelow.{In-numbers_below, below_from_In}
 use Rattle.graph_base.specs.declared.graph.Node.{Node}
 use Rattle.graph_base.specs.Graphs.{PlainGraph, IsGraph}
-use Rattle.graph_base.specs.Runs.{is_start, place_of, run, start_at, step_at}
+use Rattle.graph_base.specs.Runs.{has_step, is_start, place_of, run, start_at, step_at}
 use Rattle.graph_base.specs.Walks.{IsEnteredFromBefore, IsFirstBefore, IsShownWalk}
 use Rattle.graph_base.proofs.RunSteps.{run_inside}
 use Rattle.graph_base.proofs.StartsAndSteps.{in_start, start_at-is, start_in, step_at-is, step_in}
@@ -103,6 +103,18 @@ module _ (w : Walks) (starts : ℕ) (pairs : List NodePair) (before : List ℕ) 
           let found = find_from (λ (s : ℕ × ℕ). s.0 == m && place_of made s.1 == l) made.steps there.0 (m, n) there.1 (and_from _ _ (eq-eqb m m refl) (eq-eqb (place_of made n) l here)) in
           let some : step_at made m l ≡ Some found.0.1 = ap (option_map (λ (s : ℕ × ℕ). s.1)) found.1 in
           cc
+
+  pub step_goes : (m n : ℕ) (x y : NodePair) → IsTrue (has_step made m n) → slice_get pairs m ≡ Some x → slice_get pairs n ≡ Some y → w.next x y.place ≡ Some y
+  step_goes m n x y has at_m at_n =
+      let link = is.link m n has in
+      let one : Some link.from ≡ Some x = sym link.at_from ∙ at_m in
+      let other : Some link.to ≡ Some y = sym link.at_to ∙ at_n in
+      let from : link.from ≡ x = cc in
+      let to : link.to ≡ y = cc in
+      ap (λ z. w.next z y.place) (sym from) ∙ ap (λ (z : NodePair). w.next link.from z.place) (sym to) ∙ link.goes ∙ ap Some to
+
+  pub step_there : (m l : ℕ) (x y : NodePair) → slice_get pairs m ≡ Some x → w.next x l ≡ Some y → (n : ℕ) × IsTrue (has_step made m n) × (slice_get pairs n ≡ Some y)
+  step_there m l x y at goes = is.all_links m l x y at (inl (omega (arith, slice_get_within pairs m x at, all))) goes
 
   -- ---- the first node before each
 
@@ -196,6 +208,10 @@ pub is_pair_graph : (g h : PlainGraph) (width starts : ℕ) (pairs : List NodePa
 is_pair_graph g h width starts pairs before steps k walks all is = record {
   runs = stands_for_both g h width starts pairs before steps k walks all is;
   shown = are_shown g h width starts pairs before steps k walks all is;
+  steps = record {
+    goes = step_goes (walks_of g h width) starts pairs before steps k walks all is;
+    all = step_there (walks_of g h width) starts pairs before steps k walks all is;
+  };
   size = sym (size_made (walks_of g h width) starts pairs before steps k walks all is);
   places = place_made (walks_of g h width) starts pairs before steps k walks all is;
   entered = entered (walks_of g h width) starts pairs before steps k walks all is;

@@ -36,3 +36,5 @@ pub mod Expressions
 pub mod Statements
 pub mod PrintingReadPolicies
 pub mod Counterexamples
+pub mod ChoiceTexts
+pub mod ChoiceMeanings

@@ -71,7 +71,7 @@ call_count (either a b) = call_count a + call_count b
 call_count (both a b) = call_count a + call_count b
 call_count (negated a) = call_count a
 
-abbrev one_if : Bool → ℕ
+abbrev pub one_if : Bool → ℕ
 one_if b = if b then 1 else 0
 
 -- how many brackets the text of an expression opens at once, where what binds less than a number stands in brackets

@@ -5,12 +5,14 @@
 #![tactic(auto)]
 
 mod call;
+mod choices;
 mod law;
 mod names;
 mod print;
 mod printing;
 mod ranked;
 
+pub use choices::{choices_are_alternatives, push_ranks};
 pub use law::printed_policies_are_read;
 pub use print::print_policy;
 pub use printing::{

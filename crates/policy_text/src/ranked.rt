@@ -16,13 +16,14 @@ pub(crate) const PREFER: u8 = 1;
 
 const OR: u8 = 2;
 
-const AND: u8 = 3;
+pub(crate) const AND: u8 = 3;
 
-const NOT: u8 = 4;
+pub(crate) const NOT: u8 = 4;
 
 const CALL: u8 = 5;
 
-fn push_opening(text: &mut Vec<u8>, is_bracketed: bool) -> Result<(), NoMemory>
+/// Opens a bracket, where one is needed.
+pub(crate) fn push_opening(text: &mut Vec<u8>, is_bracketed: bool) -> Result<(), NoMemory>
     ensures { OnOk result (text.new.items ≡ text.old.items ++ opening is_bracketed) }
 {
     if is_bracketed {
@@ -31,7 +32,8 @@ fn push_opening(text: &mut Vec<u8>, is_bracketed: bool) -> Result<(), NoMemory>
     Ok(())
 }
 
-fn push_closing(text: &mut Vec<u8>, is_bracketed: bool) -> Result<(), NoMemory>
+/// Closes it.
+pub(crate) fn push_closing(text: &mut Vec<u8>, is_bracketed: bool) -> Result<(), NoMemory>
     ensures { OnOk result (text.new.items ≡ text.old.items ++ closing is_bracketed) }
 {
     if is_bracketed {

@@ -1,6 +1,7 @@
 pub mod PromisesTelling
 pub mod Keeping
-mod Counting
 mod SomeRouter
+mod Joining
+pub mod Grouping
 pub mod Casing
 pub mod Taking

@@ -3,6 +3,8 @@ pub mod Telling
 pub mod Claims
 pub mod Laws
 pub mod Promises
+pub mod Standings
+pub mod Groups
 pub mod Texts
 pub mod Written
 pub mod Taken

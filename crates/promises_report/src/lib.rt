@@ -7,18 +7,26 @@
 
 mod case;
 mod counts;
+mod group;
+mod last;
 mod lines;
 mod places;
 mod promises;
+mod row;
+mod standing;
 mod telling;
 mod text;
 mod told;
+mod words;
 
 pub use counts::Counts;
-pub use places::{places_of, sessions_of};
+pub use group::Group;
+pub use places::sessions_of;
 pub use promises::{
-    claimed_sources_have_ranks, parts_are_what_is_taken, promises_are_kept, tops_tell_promises,
+    claimed_sources_have_ranks, groups_tell_of_cases, parts_are_what_is_taken, promises_are_kept,
+    tops_tell_promises,
 };
+pub use standing::Standing;
 pub use telling::told_of;
 pub use text::promises_text;
 pub use told::Told;

@@ -1,11 +1,8 @@
-//! Where a case can have sources.
-ghost use Rattle.std.specs.Prelude.{◌≡◌, ℕ, IfOk};
-ghost use Rattle.net_base.specs.Sets.{holds};
-ghost use Rattle.promises_report.specs.Places.{is_other, places_of as places_in, sessions_of as sessions_in};
+//! The sessions of a network.
+ghost use Rattle.std.specs.Prelude.{◌≡◌, IfOk};
+ghost use Rattle.promises_report.specs.Places.{sessions_of as sessions_in};
 
-use impact_report::{Source, push_routers, push_sessions};
-use net_base::{List, Loc, LocSet, Net, known_net};
-use policy_base::Case;
+use net_base::{List, Loc, Net};
 use std::alloc::{AllocError, Global};
 
 /// The sessions of routers to peers, by router and peer.
@@ -19,32 +16,4 @@ pub fn sessions_of(alloc: Global, net: &Net) -> Result<List<(Loc, Loc)>, AllocEr
         }
     }
     Ok(sessions)
-}
-
-/// The routers that aren't origins of a case.
-fn others(net: &Net, case: &Case) -> LocSet
-    ensures { (l : ℕ) → holds result l ≡ is_other net.now case.now l }
-{
-    known_net(net);
-    net.locations()
-        .without(&net.peer_set())
-        .without(&case.origins)
-}
-
-/// Where a case can have sources: the routers that aren't origins, by location, and then, where the origins are routers, the sessions.
-pub fn places_of(
-    alloc: Global,
-    net: &Net,
-    case: &Case,
-    sessions: &[(Loc, Loc)],
-) -> Result<Vec<Source>, AllocError>
-    requires { sessions.now ≡ sessions_in net.now }
-    ensures { IfOk result (λ places. places.items ≡ places_in net.now case.now) }
-{
-    let mut places = Vec::new(alloc);
-    push_routers(&mut places, net.routers().len() as u16, &others(net, case))?;
-    if !case.external {
-        push_sessions(&mut places, sessions)?;
-    }
-    Ok(places)
 }

@@ -1,4 +1,5 @@
 //! What a policy promises for each of its cases while nothing has failed: laws without code.
+ghost use Rattle.promises_report.specs.Groups.{GroupsTellOfCases};
 ghost use Rattle.promises_report.specs.Laws.{ClaimedSourcesHaveRanks, PromisesAreKept, TopsTellPromises};
 ghost use Rattle.promises_report.specs.Taken.{PartsAreWhatIsTaken};
 
@@ -25,4 +26,9 @@ pub fn claimed_sources_have_ranks()
 /// take it from a peer.
 pub fn parts_are_what_is_taken()
     ensures { PartsAreWhatIsTaken }
+{}
+
+/// Of each case some group tells how every router, origin and session stands in it.
+pub fn groups_tell_of_cases()
+    ensures { GroupsTellOfCases }
 {}

@@ -14,7 +14,7 @@ use Rattle.input_texts.proofs.Asking.{net_of_spelled, policy_of_spelled}
 use Rattle.judging_jobs.specs.Asked.{Audited, SpellAudit}
 use Rattle.propane_run.specs.declared.command.Command.{Command}
 use Rattle.propane_run.specs.declared.command.Command.TheVariants.{Compile, Evidence, Check, Explain, Impact, RouteMap, CheckMap, Lint, Audit, Migrate}
-use Rattle.propane_run.specs.declared.command.Command.TheVariants.{Sample, Help, Version, Promises, Maps, Under, After}
+use Rattle.propane_run.specs.declared.command.Command.TheVariants.{Sample, Help, Version, Promises, Maps, Between, Renew, Under, After}
 use Rattle.propane_run.specs.Asked.{AsksAlso, AsksFor, IsFor}
 use Rattle.propane_run.specs.Auditing.{AsksAudit}
 use Rattle.propane_run.specs.Headline.{NamesTexts}
@@ -55,6 +55,8 @@ module _ (holds : Holds) (words : List (List ℕ)) where
   asked_by Version net policy is = absurd is
   asked_by Promises net policy is = is.asked
   asked_by Maps net policy is = absurd is
+  asked_by (Between stage) net policy is = absurd is
+  asked_by (Renew part) net policy is = is.1.asked.asked
   asked_by (Under outlook) net policy is = is.1.asked.asked
   asked_by (After course) net policy is = is.1.asked.asked
 

@@ -1,6 +1,7 @@
 -- What a run of each command has written.
 pub mod Answered
 pub mod Audit
+pub mod Between
 pub mod Check
 pub mod CheckMap
 pub mod Explain
@@ -9,8 +10,10 @@ pub mod Lint
 pub mod Maps
 pub mod Migrate
 pub mod Promises
+pub mod Renew
 pub mod Replay
 pub mod RouteMap
 pub mod Sample
 pub mod Trace
+pub mod Waiting
 pub mod Written

@@ -29,19 +29,22 @@ use Rattle.judging_jobs.proofs.CheckMapLaws.{check_map_job}
 use Rattle.judging_jobs.proofs.RouteMapLaws.{route_map_job}
 use Rattle.judging_jobs.proofs.MigrateLaws.{migrate_job}
 use Rattle.judging_jobs.proofs.ConfigMapLaws.{config_maps_job}
+use Rattle.stage_jobs.proofs.BetweenLaws.{between_job}
+use Rattle.renewal_jobs.proofs.RenewalLaws.{renewal_job}
 use Rattle.report_jobs.proofs.ReplayLaws.{replay_job}
 use Rattle.report_jobs.proofs.TraceLaws.{trace_job}
 use Rattle.report_jobs.proofs.DrainLaws.{drain_job}
 use Rattle.report_jobs.proofs.SettleLaws.{settle_job}
+use Rattle.report_jobs.proofs.WaitingLaws.{waiting_job}
 use Rattle.report_jobs.proofs.PromisesLaws.{promises_job}
 use Rattle.report_jobs.specs.Promised.{WritesPromises}
 use Rattle.report_jobs.proofs.WhatIfLaws.{whatif_job}
 use Rattle.report_jobs.proofs.MultipathLaws.{multipath_job}
 use Rattle.propane_run.specs.declared.command.Command.{Command}
 use Rattle.propane_run.specs.declared.command.Command.TheVariants.{Compile, Evidence, Check, Explain, Impact, RouteMap, CheckMap, Lint, Audit, Migrate}
-use Rattle.propane_run.specs.declared.command.Command.TheVariants.{Sample, Help, Version, Promises, Maps, Under, After}
+use Rattle.propane_run.specs.declared.command.Command.TheVariants.{Sample, Help, Version, Promises, Maps, Between, Renew, Under, After}
 use Rattle.propane_run.specs.declared.command.Course.{Course}
-use Rattle.propane_run.specs.declared.command.Course.TheVariants.{Trace, Settle}
+use Rattle.propane_run.specs.declared.command.Course.TheVariants.{Trace, Settle, Waiting}
 use Rattle.propane_run.specs.declared.command.Outlook.{Outlook}
 use Rattle.propane_run.specs.declared.command.Outlook.TheVariants.{Replay, Drain, WhatIf, Multipath}
 use Rattle.propane_run.specs.Outlooks.{WritesAfter, WritesUnder}
@@ -65,6 +68,7 @@ under_is Multipath = multipath_job (Unit {0}) ⊥ tt
 after_is : (course : Course) → IsJob (Unit {0}) ⊥ (Job (After course))
 after_is Trace = trace_job (Unit {0}) ⊥ tt
 after_is Settle = settle_job (Unit {0}) ⊥ tt
+after_is Waiting = waiting_job (Unit {0}) ⊥ tt
 
 -- what it says has a form, and is one thing
 pub job_is : (c : Command) → IsJob (Refuses c) (Judges c) (Job c)
@@ -83,6 +87,8 @@ job_is (Help topic) = text_job (help_text topic) ⊥ ⊥
 job_is Version = text_job version_text ⊥ ⊥
 job_is Promises = promises_job (Unit {0}) ⊥ tt
 job_is Maps = config_maps_job (Unit {0}) ⊥ tt
+job_is (Between stage) = between_job stage (Unit {0}) (Unit {0}) tt tt
+job_is (Renew part) = renewal_job part (Unit {0}) ⊥ tt
 job_is (Under outlook) = under_is outlook
 job_is (After course) = after_is course
 

@@ -9,17 +9,19 @@ use Rattle.run_base.specs.Said.{text, Whole}
 use Rattle.run_base.proofs.Sent.{Gives, text_sent}
 use Rattle.propane_run.specs.declared.command.Command.{Command}
 use Rattle.propane_run.specs.declared.command.Command.TheVariants.{Compile, Evidence, Check, Explain, Impact, RouteMap, CheckMap, Lint, Audit, Migrate}
-use Rattle.propane_run.specs.declared.command.Command.TheVariants.{Sample, Help, Version, Promises, Maps, Under, After}
+use Rattle.propane_run.specs.declared.command.Command.TheVariants.{Sample, Help, Version, Promises, Maps, Between, Renew, Under, After}
 use Rattle.propane_run.specs.Ends.{EndsRight, Compiles as EndsCompiling}
 use Rattle.propane_run.specs.Run.{Job}
 use Rattle.propane_run.specs.Words.{names_read}
 use Rattle.propane_run.proofs.ByCommand.Audit as audit
+use Rattle.propane_run.proofs.ByCommand.Between as between
 use Rattle.propane_run.proofs.ByCommand.Check as check
 use Rattle.propane_run.proofs.ByCommand.CheckMap as check_map
 use Rattle.propane_run.proofs.ByCommand.Explain as explain
 use Rattle.propane_run.proofs.ByCommand.Lint as lint
 use Rattle.propane_run.proofs.ByCommand.Maps as maps
 use Rattle.propane_run.proofs.ByCommand.Migrate as migrate
+use Rattle.propane_run.proofs.ByCommand.Renew as renew
 use Rattle.propane_run.proofs.ByCommand.RouteMap as route_map
 use Rattle.propane_run.proofs.Compilers as compilers
 use Rattle.propane_run.proofs.Roles.{Compiles}
@@ -86,6 +88,16 @@ module _ {O E : Type 0} (ot : O → Option (List ℕ)) (of : O → ℕ) (et : E 
     ends Maps gives = λ config asks. (
       λ few calm. maps.mapped_where holds words config asks ot of et ef out out' err err' ended few calm gives,
       λ many calm. maps.too_many_where holds words config asks ot of et ef out out' err err' ended many calm gives,
+    )
+    ends (Between stage) gives = λ old new asks. (
+      λ free calm. between.staged_where holds words stage old new asks ot of et ef out out' err err' ended free calm gives,
+      λ way calm. between.told_where holds words stage old new asks ot of et ef out out' err err' ended way calm gives,
+      λ n many calm. between.too_many_where holds words stage old new asks ot of et ef out out' err err' ended n many calm gives,
+    )
+    ends (Renew part) gives = λ net policy old asks. (
+      λ none within calm. renew.renewed_where holds words part net policy old asks ot of et ef out out' err err' ended none within calm gives,
+      λ e applies calm. renew.refused_where holds words part net policy old asks ot of et ef out out' err err' ended e calm applies gives,
+      λ past calm. renew.past_where holds words part net policy old asks ot of et ef out out' err err' ended past calm gives,
     )
     ends (Under outlook) gives = compiling (Under outlook) tt gives
     ends (After course) gives = compiling (After course) tt gives

@@ -4,6 +4,7 @@ use Rattle.std.specs.Prelude.{option_map, option_and_then, slice_get, codes, if�
 use Rattle.std.specs.Str.{bytes_eq}
 use Rattle.std.proofs.lemmas.Bool.{eqb-true}
 use Rattle.std.proofs.lemmas.Slice.Eq.{bytes_eq-Decides}
+use Rattle.compile_jobs.specs.declared.written.Part.TheVariants as part
 use Rattle.help_texts.specs.Pages.{topic_named, topics, word_of}
 use Rattle.help_texts.specs.declared.topic.Topic.{Topic}
 use Rattle.help_texts.specs.declared.topic.Topic.TheVariants as topic
@@ -11,10 +12,10 @@ use Rattle.list_law.proofs.Options.{option_and_then_parts, option_map_parts}
 use Rattle.list_law.proofs.Tests.{find_parts}
 use Rattle.propane_run.specs.declared.command.Command.{Command}
 use Rattle.propane_run.specs.declared.command.Command.TheVariants.{Compile, Evidence, Check, Explain, Impact, RouteMap, CheckMap, Lint, Audit, Migrate}
-use Rattle.propane_run.specs.declared.command.Command.TheVariants.{Sample, Help, Version, Promises, Maps, Under, After}
-use Rattle.propane_run.specs.declared.command.Course.TheVariants.{Trace, Settle}
+use Rattle.propane_run.specs.declared.command.Command.TheVariants.{Sample, Help, Version, Promises, Maps, Between, Renew, Under, After}
+use Rattle.propane_run.specs.declared.command.Course.TheVariants.{Trace, Settle, Waiting}
 use Rattle.propane_run.specs.declared.command.Outlook.TheVariants.{Replay, Drain, WhatIf, Multipath}
-use Rattle.propane_run.specs.Words.{command_of, help_of, name_count, names_read, other_words, prefix_word, sample_number, topic_asked, words_are}
+use Rattle.propane_run.specs.Words.{command_of, help_of, name_count, names_read, other_words, prefix_word, sample_number, stage_word, topic_asked, words_are}
 
 -- the command whose word a command's is
 abbrev topic_of : Command → Topic
@@ -33,12 +34,16 @@ topic_of (Help t) = topic.Help
 topic_of Version = topic.Version
 topic_of Promises = topic.Promises
 topic_of Maps = topic.Maps
+topic_of (Between stage) = topic.Between
+topic_of (Renew part.Config) = topic.Renew
+topic_of (Renew part.Evidence) = topic.Renewal
 topic_of (Under Replay) = topic.Replay
 topic_of (Under Drain) = topic.Drain
 topic_of (Under WhatIf) = topic.WhatIf
 topic_of (Under Multipath) = topic.Multipath
 topic_of (After Trace) = topic.Trace
 topic_of (After Settle) = topic.Settle
+topic_of (After Waiting) = topic.Waiting
 
 is_of : (a c : Command) (t : Topic) → topic_of a ≡ t → Some a ≡ Some c → topic_of c ≡ t
 is_of a c t named h = let same : a ≡ c = cc in sym (ap topic_of same) ∙ named
@@ -72,6 +77,13 @@ named topic.Promises rest c h = is_of Promises c topic.Promises refl h
 named topic.WhatIf rest c h = is_of (Under WhatIf) c topic.WhatIf refl h
 named topic.Multipath rest c h = is_of (Under Multipath) c topic.Multipath refl h
 named topic.Maps rest c h = is_of Maps c topic.Maps refl h
+named topic.Between rest c h =
+    let word = option_and_then_parts (λ w. option_map (λ s. Between s) (stage_word w)) (slice_get rest 2) c h in
+    let stage = option_map_parts (λ s. Between s) (stage_word word.0) c word.2 in
+    sym (ap topic_of stage.2)
+named topic.Renew rest c h = is_of (Renew part.Config) c topic.Renew refl h
+named topic.Renewal rest c h = is_of (Renew part.Evidence) c topic.Renewal refl h
+named topic.Waiting rest c h = is_of (After Waiting) c topic.Waiting refl h
 
 -- a word by which every program is asked names help or the version alone
 own_word : (help version : Bool) (word : List ℕ) (t : Topic) → t ≢ topic.Help → t ≢ topic.Version

@@ -13,15 +13,16 @@ use Rattle.report_jobs.specs.WhatIfs.{WritesWhatIf}
 use Rattle.report_jobs.specs.Spread.{WritesMultipath}
 use Rattle.propane_run.specs.declared.command.Command.{Command}
 use Rattle.propane_run.specs.declared.command.Command.TheVariants.{Compile, Evidence, Check, Explain, Impact, RouteMap, CheckMap, Lint, Audit, Migrate}
-use Rattle.propane_run.specs.declared.command.Command.TheVariants.{Sample, Help, Version, Promises, Maps, Under, After}
+use Rattle.propane_run.specs.declared.command.Command.TheVariants.{Sample, Help, Version, Promises, Maps, Between, Renew, Under, After}
 use Rattle.propane_run.specs.declared.command.Course.{Course}
-use Rattle.propane_run.specs.declared.command.Course.TheVariants.{Trace, Settle}
+use Rattle.propane_run.specs.declared.command.Course.TheVariants.{Trace, Settle, Waiting}
 use Rattle.propane_run.specs.declared.command.Outlook.{Outlook}
 use Rattle.propane_run.specs.declared.command.Outlook.TheVariants.{Replay, Drain, WhatIf, Multipath}
 use Rattle.propane_run.specs.Promises.{AnswersAfter, AnswersUnder, Promised}
 use Rattle.propane_run.specs.Run.{Comes}
 use Rattle.propane_run.proofs.ByCommand.Answered as answered
 use Rattle.propane_run.proofs.ByCommand.Audit as audit
+use Rattle.propane_run.proofs.ByCommand.Between as between
 use Rattle.propane_run.proofs.ByCommand.Check as check
 use Rattle.propane_run.proofs.ByCommand.CheckMap as check_map
 use Rattle.propane_run.proofs.ByCommand.Explain as explain
@@ -30,10 +31,12 @@ use Rattle.propane_run.proofs.ByCommand.Lint as lint
 use Rattle.propane_run.proofs.ByCommand.Maps as maps
 use Rattle.propane_run.proofs.ByCommand.Migrate as migrate
 use Rattle.propane_run.proofs.ByCommand.Promises as promises
+use Rattle.propane_run.proofs.ByCommand.Renew as renew
 use Rattle.propane_run.proofs.ByCommand.Replay as replay
 use Rattle.propane_run.proofs.ByCommand.RouteMap as route_map
 use Rattle.propane_run.proofs.ByCommand.Sample as sample
 use Rattle.propane_run.proofs.ByCommand.Trace as trace
+use Rattle.propane_run.proofs.ByCommand.Waiting as waiting
 use Rattle.propane_run.proofs.ByCommand.Written as written_by
 use Rattle.propane_run.proofs.Compilers as compilers
 use Rattle.propane_run.proofs.Roles.{Judges, Refuses}
@@ -49,6 +52,7 @@ module _ {S : Type 0} (holds : Holds) (words : List (List ℕ)) (taken : S → O
   after : (course : Course) → Comes holds words (After course) (text b) → AnswersAfter holds taken words course before now
   after Trace comes = trace.right holds words taken before now b written comes
   after Settle comes = answered.right events_line events_spelled WritesSettlement holds words (After Settle) taken before now b written comes.is comes.bytes comes.held comes.says
+  after Waiting comes = waiting.right holds words taken before now b written comes
 
   pub done : (c : Command) → Comes holds words c (text b) → Promised holds taken words c Done before now
   done Compile comes = written_by.compiled holds words taken before now b written comes
@@ -66,6 +70,8 @@ module _ {S : Type 0} (holds : Holds) (words : List (List ℕ)) (taken : S → O
   done Version comes = rw (out_is _ _ comes.says) at written
   done Promises comes = promises.right holds words taken before now b written comes
   done Maps comes = maps.right holds words taken before now b written comes
+  done (Between stage) comes = between.right holds words stage taken before now b written comes
+  done (Renew part) comes = renew.right holds words part taken before now b written comes
   done (Under outlook) comes = under outlook comes
   done (After course) comes = after course comes
 
@@ -74,6 +80,8 @@ module _ {S : Type 0} (holds : Holds) (words : List (List ℕ)) (taken : S → O
   refused CheckMap refuses comes = check_map.refused holds words taken before now b written comes
   refused Lint refuses comes = lint.refused holds words taken before now b written comes
   refused Maps refuses comes = maps.refused holds words taken before now b written comes
+  refused (Between stage) refuses comes = between.refused holds words stage taken before now b written comes
+  refused (Renew part) refuses comes = renew.refused holds words part taken before now b written comes
   refused Compile refuses comes = compilers.refused holds words taken before now b written Compile refuses comes
   refused Evidence refuses comes = compilers.refused holds words taken before now b written Evidence refuses comes
   refused (Impact x) refuses comes = compilers.refused holds words taken before now b written (Impact x) refuses comes
@@ -87,4 +95,5 @@ module _ {S : Type 0} (holds : Holds) (words : List (List ℕ)) (taken : S → O
   failed Check judges comes = check.fails holds words taken before now b written comes
   failed CheckMap judges comes = check_map.fails holds words taken before now b written comes
   failed Audit judges comes = audit.fails holds words taken before now b written comes
+  failed (Between stage) judges comes = between.fails holds words stage taken before now b written comes
   failed c judges comes = absurd judges

@@ -6,13 +6,16 @@ use Rattle.topology.specs.Meaning.{IsTopologyOf}
 use Rattle.policy_law.specs.Texts.{IsPolicyTextOf}
 use Rattle.scenarios.specs.declared.scenario.Scenario.{Scenario}
 use Rattle.scenario_reader.specs.Spelled.{spelled as scenario_spelled}
+use Rattle.compile_jobs.specs.declared.written.Part.{Part}
+use Rattle.config_base.specs.Configs.{PlainConfig}
+use Rattle.config_reader.specs.Text.{spelled as config_spelled}
 use Rattle.event_reader.specs.declared.events.Events.{Events}
 use Rattle.event_reader.specs.Spelled.{spelled as events_spelled}
 use Rattle.sample_network.specs.Network.{sample_net}
 use Rattle.sample_network.specs.SamplePolicy.{sample_policy}
 use Rattle.propane_run.specs.declared.command.Command.{Command}
 use Rattle.propane_run.specs.declared.command.Command.TheVariants.{Compile, Evidence, Check, Explain, Impact, RouteMap, CheckMap, Lint, Audit, Migrate}
-use Rattle.propane_run.specs.declared.command.Command.TheVariants.{Sample, Help, Version, Promises, Maps, Under, After}
+use Rattle.propane_run.specs.declared.command.Command.TheVariants.{Sample, Help, Version, Promises, Maps, Between, Renew, Under, After}
 use Rattle.propane_run.specs.Words.{words_are, names_read}
 use Rattle.run_base.specs.Reading.{Holds, AllHeld}
 
@@ -42,6 +45,10 @@ AsksUnder = AsksAlso scenario_spelled
 abbrev pub AsksOfEvents : Holds → List (List ℕ) → Command → PlainNet → PlainPolicy → Events → Type 0
 AsksOfEvents = AsksAlso events_spelled
 
+-- or an old configuration, which may be of any network
+abbrev pub AsksOfRenewal : Holds → List (List ℕ) → Part → PlainNet → PlainPolicy → PlainConfig → Type 0
+AsksOfRenewal holds words part = AsksAlso (λ (net : PlainNet). config_spelled) holds words (Renew part)
+
 -- The words are `sample` with this number, and these are its network and its policy.
 pub record IsSampled (words : List (List ℕ)) (n : ℕ) (net : PlainNet) (policy : PlainPolicy) : Type 0 where
   pub asked : words_are words ≡ Some (Sample n)
@@ -49,7 +56,7 @@ pub record IsSampled (words : List (List ℕ)) (n : ℕ) (net : PlainNet) (polic
   pub policy_is : policy ≡ sample_policy n
 
 -- The network and the policy of a command that has both: those that its inputs spell, or those of the sample of its number. Where a
--- scenario is read, too, or events, the inputs spell them.
+-- scenario is read, too, or events, or an old configuration, the inputs spell them.
 abbrev pub IsFor : Holds → List (List ℕ) → Command → PlainNet → PlainPolicy → Type 0
 IsFor holds words Compile net policy = AsksFor holds words Compile net policy
 IsFor holds words Evidence net policy = AsksFor holds words Evidence net policy
@@ -66,5 +73,7 @@ IsFor holds words (Help topic) net policy = ⊥
 IsFor holds words Version net policy = ⊥
 IsFor holds words Promises net policy = AsksFor holds words Promises net policy
 IsFor holds words Maps net policy = ⊥
+IsFor holds words (Between stage) net policy = ⊥
+IsFor holds words (Renew part) net policy = (old : PlainConfig) × AsksOfRenewal holds words part net policy old
 IsFor holds words (Under outlook) net policy = (scenario : Scenario) × AsksUnder holds words (Under outlook) net policy scenario
 IsFor holds words (After course) net policy = (events : Events) × AsksOfEvents holds words (After course) net policy events

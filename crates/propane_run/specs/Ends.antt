@@ -19,16 +19,21 @@ use Rattle.refusal_lines.specs.RefusalLines.{refusal_line}
 use Rattle.evidence_law.specs.Passes.{Passes}
 use Rattle.route_maps.specs.Maps.{PlainMaps}
 use Rattle.route_maps.specs.OfConfig.{maps_of}
+use Rattle.renewal_jobs.specs.Renewing.{PrefsRunOut, run_out_line, top_of}
 use Rattle.run_base.specs.Reading.{Holds}
 use Rattle.scenarios.specs.Scenarios.{failures_of}
 use Rattle.propane_run.specs.declared.command.Command.{Command}
 use Rattle.propane_run.specs.declared.command.Command.TheVariants.{Compile, Evidence, Check, Explain, Sample, Migrate, Impact, RouteMap, CheckMap, Lint}
-use Rattle.propane_run.specs.declared.command.Command.TheVariants.{Audit, Help, Version, Promises, Maps, Under, After}
-use Rattle.propane_run.specs.Asked.{AsksFor, IsFor}
+use Rattle.propane_run.specs.declared.command.Command.TheVariants.{Audit, Help, Version, Promises, Maps, Between, Renew, Under, After}
+use Rattle.propane_run.specs.Asked.{AsksFor, AsksOfRenewal, IsFor}
 use Rattle.propane_run.specs.Auditing.{AsksAudit}
 use Rattle.propane_run.specs.Checking.{AsksOf}
 use Rattle.propane_run.specs.Mapping.{AsksOfConfig, AsksOfMaps}
 use Rattle.propane_run.specs.Migrating.{AsksOfOld}
+use Rattle.propane_run.specs.Staging.{AsksBetween}
+use Rattle.stage_check.specs.declared.judging.Verdict.TheVariants.{MayMix, TooManyLines}
+use Rattle.stage_check.specs.Verdicts.{verdict}
+use Rattle.stage_jobs.specs.Betweens.{IsInTheWay, too_many_lines as too_long}
 
 -- no refusal of the compiler applies
 abbrev pub IsFree : PlainNet → PlainPolicy → Type 0
@@ -77,5 +82,11 @@ module _ (holds : Holds) (words : List (List ℕ)) (Succeeds Fails : Type 0) (Re
   EndsRight Version = Succeeds
   EndsRight Promises = Compiles Promises
   EndsRight Maps = (config : PlainConfig) → AsksOfConfig holds words config → (AreFew config → Succeeds) × (AreMany config → Refuses (many_line config))
+  EndsRight (Between stage) = (old new : PlainConfig) → AsksBetween holds words stage old new
+      → (verdict old new ≡ MayMix → Succeeds) × (IsInTheWay (verdict old new) → Fails) × ((n : ℕ) → verdict old new ≡ TooManyLines n → Refuses (too_long n))
+  EndsRight (Renew part) = (net : PlainNet) (policy : PlainPolicy) (old : PlainConfig) → AsksOfRenewal holds words part net policy old
+      → (IsFree net policy → ¬ PrefsRunOut net policy old → Succeeds)
+      × ((e : CompileRefusal) → IsRefusedFor net policy e → Refuses (refusal_line net e))
+      × (PrefsRunOut net policy old → Refuses (run_out_line (top_of old)))
   EndsRight (Under outlook) = Compiles (Under outlook)
   EndsRight (After course) = Compiles (After course)

@@ -16,8 +16,11 @@ pub mod Pairs
 pub mod Promises
 pub mod Promising
 pub mod Refusing
+pub mod Renewing
 pub mod Replaying
 pub mod Run
 pub mod Sampling
+pub mod Staging
 pub mod Tracing
+pub mod Waiting
 pub mod Words

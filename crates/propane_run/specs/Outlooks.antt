@@ -11,9 +11,10 @@ use Rattle.report_jobs.specs.Replayed.{WritesReport}
 use Rattle.report_jobs.specs.Settles.{WritesSettlement}
 use Rattle.report_jobs.specs.Spread.{WritesMultipath}
 use Rattle.report_jobs.specs.Traced.{WritesTrace}
+use Rattle.report_jobs.specs.Waits.{WritesWaiting}
 use Rattle.report_jobs.specs.WhatIfs.{WritesWhatIf}
 use Rattle.propane_run.specs.declared.command.Course.{Course}
-use Rattle.propane_run.specs.declared.command.Course.TheVariants.{Trace, Settle}
+use Rattle.propane_run.specs.declared.command.Course.TheVariants.{Trace, Settle, Waiting}
 use Rattle.propane_run.specs.declared.command.Outlook.{Outlook}
 use Rattle.propane_run.specs.declared.command.Outlook.TheVariants.{Replay, Drain, WhatIf, Multipath}
 
@@ -28,3 +29,4 @@ WritesUnder Multipath = WritesMultipath
 abbrev pub WritesAfter : Course → PlainNet → PlainPolicy → Events → PlainConfig → List PlainCaseEvidence → List ℕ → Type 0
 WritesAfter Trace = WritesTrace
 WritesAfter Settle = WritesSettlement
+WritesAfter Waiting = WritesWaiting

@@ -18,14 +18,15 @@ use Rattle.run_base.specs.Reading.{Holds}
 use Rattle.run_base.specs.Said.{Whole}
 use Rattle.propane_run.specs.declared.command.Command.{Command}
 use Rattle.propane_run.specs.declared.command.Command.TheVariants.{Compile, Evidence, Check, Explain, Sample, Migrate, Impact, RouteMap, CheckMap, Lint}
-use Rattle.propane_run.specs.declared.command.Command.TheVariants.{Audit, Help, Version, Promises, Maps, Under, After}
+use Rattle.propane_run.specs.declared.command.Command.TheVariants.{Audit, Help, Version, Promises, Maps, Between, Renew, Under, After}
 use Rattle.propane_run.specs.declared.command.Course.{Course}
-use Rattle.propane_run.specs.declared.command.Course.TheVariants.{Trace, Settle}
+use Rattle.propane_run.specs.declared.command.Course.TheVariants.{Trace, Settle, Waiting}
 use Rattle.propane_run.specs.declared.command.Outlook.{Outlook}
 use Rattle.propane_run.specs.declared.command.Outlook.TheVariants.{Replay, Drain, WhatIf, Multipath}
 use Rattle.propane_run.specs.Answering.{AnswersRight}
 use Rattle.propane_run.specs.Asked.{AsksFor}
 use Rattle.propane_run.specs.Auditing.{AuditsRight, TellsAuditFault}
+use Rattle.propane_run.specs.Staging.{TellsTheWay, TellsTooLong, WritesStage}
 use Rattle.propane_run.specs.Checking.{AsksOf, ChecksRight, TellsFault}
 use Rattle.propane_run.specs.Explaining.{ExplainsRight}
 use Rattle.propane_run.specs.Headline.{CompilesRight, GivesEvidence}
@@ -35,9 +36,11 @@ use Rattle.propane_run.specs.Mapping.{MapsAgree, MapsRight, TellsDifference, Tel
 use Rattle.propane_run.specs.Migrating.{MigratesRight}
 use Rattle.propane_run.specs.Promising.{PromisesRight}
 use Rattle.propane_run.specs.Refusing.{RefusesRight}
+use Rattle.propane_run.specs.Renewing.{RenewsRight, TellsRunOut}
 use Rattle.propane_run.specs.Replaying.{ReplaysRight}
 use Rattle.propane_run.specs.Sampling.{Samples}
 use Rattle.propane_run.specs.Tracing.{TracesRight}
+use Rattle.propane_run.specs.Waiting.{WaitsRight}
 
 -- What is promised of a scenario: that the text answers what is asked, and of `replay` that there is one answer.
 abbrev pub AnswersUnder : {S : Type 0} → Holds → (S → Option (List ℕ)) → List (List ℕ) → Outlook → S → S → Type 0
@@ -46,10 +49,12 @@ AnswersUnder holds taken words Drain s s' = AnswersRight scenario_spelled Writes
 AnswersUnder holds taken words WhatIf s s' = AnswersRight scenario_spelled WritesWhatIf holds taken words (Under WhatIf) s s'
 AnswersUnder holds taken words Multipath s s' = AnswersRight scenario_spelled WritesMultipath holds taken words (Under Multipath) s s'
 
--- And of events, of `trace` that it tells of what is right at the moment, and at rest what `replay` tells.
+-- And of events, of `trace` that it tells of what is right at the moment, and at rest what `replay` tells; of `waiting` that what it tells
+-- of is right at the moment, too.
 abbrev pub AnswersAfter : {S : Type 0} → Holds → (S → Option (List ℕ)) → List (List ℕ) → Course → S → S → Type 0
 AnswersAfter holds taken words Trace s s' = TracesRight holds taken words s s'
 AnswersAfter holds taken words Settle s s' = AnswersRight events_spelled WritesSettlement holds taken words (After Settle) s s'
+AnswersAfter holds taken words Waiting s s' = WaitsRight holds taken words s s'
 
 -- For a command and the status with which it ended: what the sink has taken that goes with the status, `out` with Done and CheckFails,
 -- and `err` with Refused. A command ends with none of the three that isn't listed for it.
@@ -85,6 +90,11 @@ Promised holds taken words Promises Done s s' = PromisesRight holds taken words 
 Promised holds taken words Promises Refused s s' = RefusesRight holds taken words Promises s s'
 Promised holds taken words Maps Done s s' = WritesMaps holds taken words s s'
 Promised holds taken words Maps Refused s s' = TellsTooMany holds taken words Maps s s'
+Promised holds taken words (Between stage) Done s s' = WritesStage holds taken words stage s s'
+Promised holds taken words (Between stage) CheckFails s s' = TellsTheWay holds taken words stage s s'
+Promised holds taken words (Between stage) Refused s s' = TellsTooLong holds taken words stage s s'
+Promised holds taken words (Renew part) Done s s' = RenewsRight holds taken words part s s'
+Promised holds taken words (Renew part) Refused s s' = RefusesRight holds taken words (Renew part) s s' ⊎ TellsRunOut holds taken words part s s'
 Promised holds taken words (Under outlook) Done s s' = AnswersUnder holds taken words outlook s s'
 Promised holds taken words (Under outlook) Refused s s' = RefusesRight holds taken words (Under outlook) s s'
 Promised holds taken words (After course) Done s s' = AnswersAfter holds taken words course s s'

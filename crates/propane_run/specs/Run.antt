@@ -2,7 +2,7 @@
 use Rattle.std.specs.Prelude.{◌≡◌, ℕ, List, Option, Some, None}
 use Rattle.propane_run.specs.declared.command.Command.{Command}
 use Rattle.propane_run.specs.declared.command.Command.TheVariants.{Compile, Evidence, Check, Explain, Impact, RouteMap, CheckMap, Lint, Audit, Migrate}
-use Rattle.propane_run.specs.declared.command.Command.TheVariants.{Sample, Help, Version, Promises, Maps, Under, After}
+use Rattle.propane_run.specs.declared.command.Command.TheVariants.{Sample, Help, Version, Promises, Maps, Between, Renew, Under, After}
 use Rattle.propane_run.specs.Outlooks.{WritesUnder, WritesAfter}
 use Rattle.propane_run.specs.Words.{names_read, usage, words_are}
 use Rattle.run_base.specs.Reading.{Holds, ReadsAll, AllHeld, FailedAs}
@@ -20,9 +20,11 @@ use Rattle.report_jobs.specs.Impacts as impact
 use Rattle.judging_jobs.specs.Linted as lint
 use Rattle.judging_jobs.specs.MapsJobs as maps
 use Rattle.judging_jobs.specs.ConfigMaps as config_maps
+use Rattle.stage_jobs.specs.Betweens as between
 use Rattle.judging_jobs.specs.Migrated as migrate
 use Rattle.compile_jobs.specs.Sampled.{SaysOfNumber}
 use Rattle.compile_jobs.specs.Written.{SaysOfPart}
+use Rattle.renewal_jobs.specs.Renewing as renewals
 use Rattle.report_jobs.specs.Promised as promises
 use Rattle.run_base.specs.declared.outcome.Status.{Status}
 use Rattle.run_base.specs.Said.{Delivered, IsGiven, Said, text}
@@ -44,6 +46,8 @@ Job (Help topic) = λ bs what. what ≡ text (help_text topic)
 Job Version = λ bs what. what ≡ text version_text
 Job Promises = promises.SaysOfTexts
 Job Maps = config_maps.SaysOfTexts
+Job (Between stage) = between.SaysOfTexts stage
+Job (Renew part) = renewals.SaysOfTexts part
 Job (Under outlook) = SaysOfThree scenario_line scenario_spelled (WritesUnder outlook)
 Job (After course) = SaysOfThree events_line events_spelled (WritesAfter course)
 

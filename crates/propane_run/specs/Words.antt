@@ -3,19 +3,22 @@ use Rattle.std.specs.Prelude.{ℕ, ◌+◌, ◌<◌, Bool, ◌&&◌, ◌||◌, n
 use Rattle.std.specs.Result.{result_ok}
 use Rattle.std.specs.List.{AllByRecursion}
 use Rattle.std.specs.Str.{bytes_eq}
+use Rattle.compile_jobs.specs.declared.written.Part.TheVariants as part
 use Rattle.help_texts.specs.Pages.{topic_named, usage_text}
 use Rattle.help_texts.specs.declared.topic.Topic.{Topic}
 use Rattle.help_texts.specs.declared.topic.Topic.TheVariants as topic
 use Rattle.net_base.specs.Prefixes.{PlainPrefix}
 use Rattle.net_base.specs.PrefixText.{length_number, prefix_spelled}
 use Rattle.sample_network.specs.Network.{IsSampleNumber}
+use Rattle.stage_check.specs.declared.which.Stage.{Stage}
+use Rattle.stage_check.specs.declared.which.Stage.TheVariants.{One, Two}
 use Rattle.run_base.specs.declared.outcome.Status.TheVariants.{Usage}
 use Rattle.run_base.specs.Reading.{names_at, word_at}
 use Rattle.run_base.specs.Said.{Said, line}
 use Rattle.propane_run.specs.declared.command.Command.{Command}
 use Rattle.propane_run.specs.declared.command.Command.TheVariants.{Compile, Evidence, Check, Explain, Impact, RouteMap, CheckMap, Lint, Audit, Migrate}
-use Rattle.propane_run.specs.declared.command.Command.TheVariants.{Sample, Help, Version, Promises, Maps, Under, After}
-use Rattle.propane_run.specs.declared.command.Course.TheVariants.{Trace, Settle}
+use Rattle.propane_run.specs.declared.command.Command.TheVariants.{Sample, Help, Version, Promises, Maps, Between, Renew, Under, After}
+use Rattle.propane_run.specs.declared.command.Course.TheVariants.{Trace, Settle, Waiting}
 use Rattle.propane_run.specs.declared.command.Outlook.TheVariants.{Replay, Drain, WhatIf, Multipath}
 
 -- the command of a word: its own, or one by which every program is asked for help and for its version
@@ -32,6 +35,13 @@ sample_number digits = option_and_then (λ n. if nat_le 2 n && nat_le n 96 then 
 -- a prefix
 abbrev pub prefix_word : List ℕ → Option PlainPrefix
 prefix_word word = result_ok (prefix_spelled word)
+
+-- a stage: 1 or 2
+abbrev pub stage_word : List ℕ → Option Stage
+stage_word word =
+    if bytes_eq word (codes "1") then Some One
+    else if bytes_eq word (codes "2") then Some Two
+    else None
 
 -- the command of which help is asked, or none where it is asked of all
 abbrev pub help_of : List (List ℕ) → Option (Option Topic)
@@ -61,6 +71,10 @@ command_of topic.Promises rest = Some Promises
 command_of topic.WhatIf rest = Some (Under WhatIf)
 command_of topic.Multipath rest = Some (Under Multipath)
 command_of topic.Maps rest = Some Maps
+command_of topic.Between rest = option_and_then (λ word. option_map (λ s. Between s) (stage_word word)) (slice_get rest 2)
+command_of topic.Renew rest = Some (Renew part.Config)
+command_of topic.Renewal rest = Some (Renew part.Evidence)
+command_of topic.Waiting rest = Some (After Waiting)
 
 -- how many names a command reads
 abbrev pub name_count : Command → ℕ
@@ -79,13 +93,16 @@ name_count (Help topic) = 0
 name_count Version = 0
 name_count Promises = 2
 name_count Maps = 1
+name_count (Between stage) = 2
+name_count (Renew part) = 3
 name_count (Under outlook) = 3
 name_count (After course) = 3
 
--- how many words follow its names: a number, a prefix, or the word of a command
+-- how many words follow its names: a number, a prefix, a stage, or the word of a command
 abbrev pub other_words : Command → ℕ
 other_words (Sample leaves) = 1
 other_words (Impact prefix) = 1
+other_words (Between stage) = 1
 other_words (Help (Some topic)) = 1
 other_words _ = 0
 

@@ -11,6 +11,7 @@ ghost use Rattle.propane_run.specs.Words.{
   command_of,
   sample_number,
   prefix_word,
+  stage_word,
   help_of,
   name_count,
   other_words,
@@ -19,8 +20,10 @@ ghost use Rattle.propane_run.specs.Words.{
   IsWithin,
 };
 
+use compile_jobs::Part;
 use help_texts::Topic;
 use net_base::{Prefix, read_length, read_prefix};
+use stage_check::Stage;
 
 // The places in the words at which the names of a command stand: they follow its own word.
 const PLACES: [u32; 6] = [1, 2, 3, 4, 5, 6];
@@ -45,6 +48,8 @@ pub enum Course {
     Trace,
     /// `settle TOPO POLICY EVENTS`.
     Settle,
+    /// `waiting TOPO POLICY EVENTS`.
+    Waiting,
 }
 
 /// A command, with what isn't a name in its words.
@@ -80,6 +85,10 @@ pub enum Command {
     Promises,
     /// `maps CONFIG`.
     Maps,
+    /// `between BEFORE AFTER STAGE`.
+    Between(Stage),
+    /// `renew TOPO POLICY CONFIG`, or `renewal` of the same: the part that it writes.
+    Renew(Part),
     /// A command on a topology, a policy and a scenario.
     Under(Outlook),
     /// A command on a topology, a policy and events.
@@ -114,6 +123,10 @@ impl Command {
             Topic::WhatIf => Some(Command::Under(Outlook::WhatIf)),
             Topic::Multipath => Some(Command::Under(Outlook::Multipath)),
             Topic::Maps => Some(Command::Maps),
+            Topic::Between => Some(Command::Between(stage_of(rest.get(2)?.as_str())?)),
+            Topic::Renew => Some(Command::Renew(Part::Config)),
+            Topic::Renewal => Some(Command::Renew(Part::Evidence)),
+            Topic::Waiting => Some(Command::After(Course::Waiting)),
         }
     }
 
@@ -131,19 +144,23 @@ impl Command {
             | Command::RouteMap
             | Command::CheckMap
             | Command::Lint
-            | Command::Promises => 2,
-            Command::Under(_) | Command::After(_) => 3,
+            | Command::Promises
+            | Command::Between(_) => 2,
+            Command::Renew(_) | Command::Under(_) | Command::After(_) => 3,
             Command::Check => 4,
             Command::Audit => 6,
         }
     }
 
-    /// How many words follow its names: the number of a sample, a prefix, or the word of a command.
+    /// How many words follow its names: the number of a sample, a prefix, the number of a stage, or the word of a command.
     fn other_words(&self) -> usize
         ensures { result ≡ other_words self.now }
     {
         match *self {
-            Command::Sample(_) | Command::Impact(_) | Command::Help(Some(_)) => 1,
+            Command::Sample(_)
+            | Command::Impact(_)
+            | Command::Between(_)
+            | Command::Help(Some(_)) => 1,
             _ => 0,
         }
     }
@@ -173,6 +190,17 @@ fn prefix_of(word: &str) -> Option<Prefix>
     ensures { result ≡ prefix_word word.now }
 {
     read_prefix(word.as_bytes()).ok()
+}
+
+// The stage that a word is.
+fn stage_of(word: &str) -> Option<Stage>
+    ensures { result ≡ stage_word word.now }
+{
+    match word {
+        "1" => Some(Stage::One),
+        "2" => Some(Stage::Two),
+        _ => None,
+    }
 }
 
 // Which command help is asked of.

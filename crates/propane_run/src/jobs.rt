@@ -16,11 +16,13 @@ use judging_jobs::{
     route_map_texts,
 };
 use net_base::List;
+use renewal_jobs::renewal_texts;
 use report_jobs::{
-    DrainCommand, MultipathCommand, ReplayCommand, SettleCommand, TraceCommand, WhatIfCommand,
-    impact_texts, promises_texts,
+    DrainCommand, MultipathCommand, ReplayCommand, SettleCommand, TraceCommand, WaitingCommand,
+    WhatIfCommand, impact_texts, promises_texts,
 };
 use run_base::Stop;
+use stage_jobs::between_texts;
 use std::alloc::Global;
 
 // The text at a place.
@@ -72,6 +74,7 @@ fn after(alloc: Global, course: Course, texts: &[List<u8>]) -> Result<Vec<u8>, S
     match course {
         Course::Trace => answer_texts::<TraceCommand>(alloc, texts),
         Course::Settle => answer_texts::<SettleCommand>(alloc, texts),
+        Course::Waiting => answer_texts::<WaitingCommand>(alloc, texts),
     }
 }
 
@@ -114,6 +117,14 @@ pub fn job(alloc: Global, command: &Command, texts: &[List<u8>]) -> Result<Vec<u
         Command::Version => written(alloc, version()),
         Command::Promises => promises_texts(alloc, text(texts, 0), text(texts, 1)),
         Command::Maps => config_maps_text(alloc, text(texts, 0)),
+        Command::Between(stage) => between_texts(alloc, stage, text(texts, 0), text(texts, 1)),
+        Command::Renew(part) => renewal_texts(
+            alloc,
+            part,
+            text(texts, 0),
+            text(texts, 1),
+            text(texts, 2),
+        ),
         Command::Under(outlook) => under(alloc, outlook, texts),
         Command::After(course) => after(alloc, course, texts),
     }

@@ -6,6 +6,7 @@ pub mod SettleLaws
 pub mod Failed
 pub mod Replays
 pub mod TraceLaws
+pub mod WaitingLaws
 pub mod PromisesLaws
 mod Telling
 mod OneText

@@ -1,5 +1,5 @@
 -- What the graphs of a compiled policy tell is what the policy promises.
-use Rattle.std.proofs.Common.{◌≡◌, ℕ, zero, suc, List, [], ◌∷◌, length, Some, sym, ap, ◌∙◌, subst}
+use Rattle.std.proofs.Common.{◌≡◌, ◌<◌, ℕ, zero, suc, List, [], ◌∷◌, length, Some, sym, ap, ◌∙◌, subst, arith}
 use Rattle.std.specs.Prelude.{slice_get}
 use Rattle.std.proofs.lemmas.List.{length-map}
 use Rattle.net_base.specs.Network.{IsNet, PlainNet}
@@ -7,6 +7,7 @@ use Rattle.policy_base.specs.declared.case.Case.{Case}
 use Rattle.policy_base.specs.Policies.{IsPolicyOf, PlainPolicy, PlainStatement, statement_at}
 use Rattle.policy_base.proofs.KnownCases.{case_known}
 use Rattle.config_base.specs.Configs.{PlainConfig}
+use Rattle.config_maker.proofs.CaseClasses.{case_count}
 use Rattle.evidence_base.specs.Made.{PlainCaseEvidence}
 use Rattle.evidence_law.specs.Passes.{Passes}
 use Rattle.evidence_law.proofs.MadeCases.{case_listed, evidence_at}
@@ -35,6 +36,10 @@ module _ (net : PlainNet) (policy : PlainPolicy) (config : PlainConfig) (cs : Li
   one_step d at =
       let s = (case_known net policy at.0 d.case (case_listed net policy config cs passes.made at.0 d at.1)).statement in
       (passes.made.graphs at.0 d s.0 at.1 s.1).faithful.formed.one_step
+
+  -- there are few of them
+  pub few_cases : length cs < 4294967296
+  few_cases = omega (arith, length-map cs (λ (d : PlainCaseEvidence). d.case), ap length passes.made.cases, case_count net policy, kept.rules.statements, kept.rules.prefixes)
 
   case_told : (k : ℕ) (d : PlainCaseEvidence) (s : PlainStatement) (a : Promises) → slice_get cs k ≡ Some d
       → statement_at policy d.case.statement ≡ Some s → IsTold net d a → IsOfCase net policy config k d.case s a

@@ -3,6 +3,7 @@ pub mod Drained
 pub mod WhatIfs
 pub mod Settles
 pub mod Traced
+pub mod Waits
 pub mod Promised
 pub mod Impacts
 pub mod Spread

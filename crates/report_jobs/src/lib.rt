@@ -6,6 +6,7 @@
 //! | `replay` | a scenario | `settled_outcome` | `outcome_report` |
 //! | `trace` | events | `event_core` | `trace_report` |
 //! | `settle` | events | `event_rounds` | `settle_report` |
+//! | `waiting` | events | `event_core` | `waiting_report` |
 //! | `drain`, `whatif` | a scenario | `drain_report`, `whatif_report` | the same, `impact_report` |
 //! | `multipath` | a scenario | `multipath_report` | the same |
 //! | `impact`, `promises` | none | `impact_report`, `promises_report` | the same |
@@ -23,6 +24,7 @@ mod promises;
 mod replay;
 mod settle;
 mod trace;
+mod waiting;
 mod whatif;
 
 pub use drain::DrainCommand;
@@ -32,4 +34,5 @@ pub use promises::promises_texts;
 pub use replay::ReplayCommand;
 pub use settle::SettleCommand;
 pub use trace::TraceCommand;
+pub use waiting::WaitingCommand;
 pub use whatif::WhatIfCommand;

@@ -1,5 +1,5 @@
 -- Among its candidates a router's firm route comes first.
-use Rattle.std.proofs.Common.{◌≡◌, ℕ, zero, suc, ◌⊎◌, inl, inr, List, [], ◌∷◌, length, Some, refl, subst, sym, ap, ◌∙◌, arith, true, ◌&&◌, ◌++◌}
+use Rattle.std.proofs.Common.{◌≡◌, ℕ, ◌⊎◌, inl, inr, List, [], ◌∷◌, length, Some, refl, subst, sym, ap, ◌∙◌, arith, true, ◌&&◌, ◌++◌}
 use Rattle.std.proofs.lemmas.Bool.{and_parts}
 use Rattle.routing_law.specs.Graph.{WellFormed, run}
 use Rattle.routing_law.specs.Network.{NamesDiffer, giver, survives}

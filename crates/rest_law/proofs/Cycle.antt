@@ -1,5 +1,5 @@
 -- If each router at the boundary could come to hold, by another one, what doesn't come after its offers, those others would go round.
-use Rattle.std.proofs.Common.{◌≡◌, ℕ, zero, suc, ◌+◌, ◌-◌, ◌<◌, ◌≤◌, List, ◌++◌, length, Some, refl, sym, ap, ◌∙◌, subst, arith}
+use Rattle.std.proofs.Common.{◌≡◌, ℕ, zero, suc, ◌+◌, ◌-◌, ◌<◌, ◌≤◌, List, ◌++◌, Some, refl, sym, ap, ◌∙◌, subst, arith}
 use Rattle.routing_law.specs.Graph.{AtLeast, Reaches, WellFormed, follow}
 use Rattle.routing_law.specs.Outcome.{Route, Routes, Setup, heard}
 use Rattle.routing_law.proofs.Heard.{chooses_parts, heard_parts}
@@ -7,6 +7,7 @@ use Rattle.routing_law.proofs.Rules.{AllRouters, Everywhere, along, no_growth}
 use Rattle.routing_law.proofs.Runs.{follow_append}
 use Rattle.routing_law.proofs.Saturate.{comes_again}
 use Rattle.rest_law.specs.Partial.{IsOpen}
+use Rattle.rest_law.specs.Sizes.{Size}
 
 -- an open router that is given x by a settled neighbour
 pub record Offered (w : Setup) (r : Routes) (v : ℕ) (x : Route) : Type 0 where
@@ -15,7 +16,7 @@ pub record Offered (w : Setup) (r : Routes) (v : ℕ) (x : Route) : Type 0 where
   pub gives : heard w r v from ≡ Some x
 
 -- what is offered to hub comes on to b, with a number no lower than that of any offer there, and sooner than those of that number
-pub record Turn (w : Setup) (r : Routes) (hub : ℕ) (offer : Route) (b : ℕ) : Type 0 where
+pub record Turn (w : Setup) (len : Size) (r : Routes) (hub : ℕ) (offer : Route) (b : ℕ) : Type 0 where
   pub begins : Offered w r hub offer
   pub node : ℕ
   pub known : node < w.graph.nodes
@@ -24,7 +25,7 @@ pub record Turn (w : Setup) (r : Routes) (hub : ℕ) (offer : Route) (b : ℕ) :
   pub routers : AllRouters w.net way
   pub runs : follow w.graph offer.node way ≡ Some node
   pub high : (x : Route) → Offered w r b x → w.graph.number x.node ≤ w.graph.number node
-  pub short : (x : Route) → Offered w r b x → w.graph.number x.node ≡ w.graph.number node → length offer.path < length x.path
+  pub short : (x : Route) → Offered w r b x → w.graph.number x.node ≡ w.graph.number node → len offer.path < len x.path
 
 abbrev pub iterate : (ℕ → ℕ) → ℕ → ℕ → ℕ
 iterate f zero b = b
@@ -41,14 +42,14 @@ iterate_again f b i j (suc s) e =
     let q : suc s + j ≡ suc (s + j) = omega arith in
     ap (λ k. iterate f k b) p ∙ ap f (iterate_again f b i j s e) ∙ sym (ap (λ k. iterate f k b) q)
 
-module _ (w : Setup) (wf : WellFormed w.net w.graph) (ev : Everywhere w.net w.graph) (r : Routes) where
+module _ (w : Setup) (len : Size) (wf : WellFormed w.net w.graph) (ev : Everywhere w.net w.graph) (r : Routes) where
   pub offer_place : (v : ℕ) (x : Route) → Offered w r v x → w.graph.place x.node ≡ v
   offer_place v x o = let a = heard_parts w r v o.from x o.gives in wf.next_place a.from.node v x.node a.step
 
   pub offer_known : (v : ℕ) (x : Route) → Offered w r v x → (v < w.net.size) × (x.node < w.graph.nodes)
   offer_known v x o = let a = heard_parts w r v o.from x o.gives in let b = wf.next_below a.from.node v x.node a.step in (b.1, b.2)
 
-  module _ (hub : ℕ → ℕ) (offer : ℕ → Route) (turn : (b : ℕ) (x : Route) → Offered w r b x → Turn w r (hub b) (offer b) b) (v : ℕ) (x : Route) (begin : Offered w r v x) where
+  module _ (hub : ℕ → ℕ) (offer : ℕ → Route) (turn : (b : ℕ) (x : Route) → Offered w r b x → Turn w len r (hub b) (offer b) b) (v : ℕ) (x : Route) (begin : Offered w r v x) where
     abbrev at : ℕ → ℕ
     at k = iterate hub k v
 
@@ -61,7 +62,7 @@ module _ (w : Setup) (wf : WellFormed w.net w.graph) (ev : Everywhere w.net w.gr
     offered zero = begin
     offered (suc k) = (turn (at k) (offer_at k) (offered k)).begins
 
-    abbrev turn_at : (k : ℕ) → Turn w r (at (suc k)) (offer_at (suc k)) (at k)
+    abbrev turn_at : (k : ℕ) → Turn w len r (at (suc k)) (offer_at (suc k)) (at k)
     turn_at k = turn (at k) (offer_at k) (offered k)
 
     -- the node that comes to a place is no worse than what is offered there
@@ -105,10 +106,10 @@ module _ (w : Setup) (wf : WellFormed w.net w.graph) (ev : Everywhere w.net w.gr
         omega (arith, le, c.2.number, over.number)
 
     -- so offers would get shorter for ever
-    shorter : (i j : ℕ) → i < j → at i ≡ at j → (s : ℕ) → s + length (offer_at (suc s + i)).path ≤ length (offer_at (suc i)).path
+    shorter : (i j : ℕ) → i < j → at i ≡ at j → (s : ℕ) → s + len (offer_at (suc s + i)).path ≤ len (offer_at (suc i)).path
     shorter i j l e zero =
         let p : suc i ≡ suc zero + i = omega arith in
-        let same : length (offer_at (suc zero + i)).path ≡ length (offer_at (suc i)).path = ap (λ k. length (offer_at k).path) (sym p) in
+        let same : len (offer_at (suc zero + i)).path ≡ len (offer_at (suc i)).path = ap (λ k. len (offer_at k).path) (sym p) in
         omega (arith, same)
     shorter i j l e (suc s) =
         let t = suc (s + i) in
@@ -117,13 +118,13 @@ module _ (w : Setup) (wf : WellFormed w.net w.graph) (ev : Everywhere w.net w.gr
         let less = (turn_at t).short (offer_at t) (offered t) even in
         let p : suc (suc s) + i ≡ suc t = omega arith in
         let q : suc s + i ≡ t = omega arith in
-        let here : length (offer_at (suc (suc s) + i)).path ≡ length (offer_at (suc t)).path = ap (λ k. length (offer_at k).path) p in
-        let before : length (offer_at (suc s + i)).path ≡ length (offer_at t).path = ap (λ k. length (offer_at k).path) q in
+        let here : len (offer_at (suc (suc s) + i)).path ≡ len (offer_at (suc t)).path = ap (λ k. len (offer_at k).path) p in
+        let before : len (offer_at (suc s + i)).path ≡ len (offer_at t).path = ap (λ k. len (offer_at k).path) q in
         omega (arith, shorter i j l e s, less, here, before)
 
     pub no_round : ⊥
     no_round =
         let c = comes_again w.net.size at (λ k. (offer_known (at k) (offer_at k) (offered k)).0) in
-        let s = suc (length (offer_at (suc c.0)).path) in
+        let s = suc (len (offer_at (suc c.0)).path) in
         let h = shorter c.0 c.1 c.2 c.3 s in
         omega (arith, h)

@@ -1,5 +1,5 @@
 -- Secure routers settle, one after the other, until the outcome is settled.
-use Rattle.std.proofs.Common.{◌≡◌, ℕ, zero, suc, ◌+◌, ◌<◌, ◌≤◌, Bool, true, false, cond, ◌⊎◌, inl, inr, List, [], ◌∷◌, Option, Some, None, eqb, refl, sym, ap, ◌∙◌, subst, arith}
+use Rattle.std.proofs.Common.{◌≡◌, ℕ, zero, suc, ◌+◌, ◌<◌, ◌≤◌, Bool, true, false, cond, ◌⊎◌, inl, inr, List, [], ◌∷◌, length, Option, Some, None, eqb, refl, sym, ap, ◌∙◌, subst, arith}
 use Rattle.std.specs.Option.{is_some}
 use Rattle.std.proofs.lemmas.Bool.{both_ways, eq-eqb, eqb-true, false≢true, or_left}
 use Rattle.routing_law.specs.Graph.{WellFormed}
@@ -192,7 +192,7 @@ module _ (w : Setup) (wf : WellFormed w.net w.graph) (ev : Everywhere w.net w.gr
       by (inr a) = inr (a.2.0, a.2.1, a.2.2)
       by (inl quiet) = inl (λ v u x o h.
           let a : Offered w r v x = record { is_open = o; from = u; gives = h } in
-          quiet v (offer_known w wf ev r v x a).0 x a)
+          quiet v (offer_known w (λ q. length q) wf ev r v x a).0 x a)
 
   abbrev pub settled_marks : Routes → ℕ → Bool
   settled_marks r v = is_some (r v)
@@ -201,7 +201,7 @@ module _ (w : Setup) (wf : WellFormed w.net w.graph) (ev : Everywhere w.net w.gr
   pub one_more : (r : Routes) (v : ℕ) (x : Route) → IsSecure w r v x → count_below (settled_marks r) w.net.size < count_below (settled_marks (settled_with r v x)) w.net.size
   one_more r v x sec =
       let a : Offered w r v x = record { is_open = sec.is_open; from = sec.from; gives = sec.gives } in
-      count_more (settled_marks r) (settled_marks (settled_with r v x)) grows w.net.size v (offer_known w wf ev r v x a).0 (ap is_some sec.is_open.1) (ap is_some (with_at r v x))
+      count_more (settled_marks r) (settled_marks (settled_with r v x)) grows w.net.size v (offer_known w (λ q. length q) wf ev r v x a).0 (ap is_some sec.is_open.1) (ap is_some (with_at r v x))
     where
       grows : (u : ℕ) → is_some (r u) ≡ true → is_some (settled_with r v x u) ≡ true
       grows u h = by (r u) refl

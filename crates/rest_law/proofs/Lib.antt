@@ -14,8 +14,11 @@ pub mod Present
 pub mod Settle
 pub mod Still
 pub mod Order
+pub mod First
+pub mod Sooner
 pub mod Cycle
 pub mod Search
+pub mod Next
 pub mod Secure
 pub mod Firm
 pub mod Candidates

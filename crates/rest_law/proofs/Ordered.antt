@@ -1,5 +1,5 @@
 -- The order in which the routers of a graph settle is one of the speakers.
-use Rattle.std.proofs.Common.{◌≡◌, ℕ, ◌<◌, ◌+◌, zero, suc, Bool, true, false, not, ◌||◌, ◌⊎◌, eqb, List, [], ◌∷◌, Option, Some, None, refl, sym, ap, ◌∙◌, subst, inl, inr, arith}
+use Rattle.std.proofs.Common.{◌≡◌, ℕ, ◌<◌, ◌+◌, zero, suc, Bool, true, false, not, ◌||◌, ◌⊎◌, eqb, List, [], ◌∷◌, length, Option, Some, None, refl, sym, ap, ◌∙◌, subst, inl, inr, arith}
 use Rattle.std.specs.Prelude.{if◌then◌else◌}
 use Rattle.std.specs.List.{list_any}
 use Rattle.std.specs.Option.{option_map}
@@ -14,7 +14,7 @@ use Rattle.routing_law.proofs.Heard.{Heard, chooses_parts, heard_parts, own_part
 use Rattle.routing_law.proofs.Sound.{route_is, sound_of}
 use Rattle.rest_law.specs.Partial.{CanHold, IsCandidate, IsOpen, IsSecure, PartlySettled, SettlingOrder, at_first, settled_with}
 use Rattle.rest_law.proofs.Candidates.{firm_comes_first, given_are_candidates, nothing_is_left}
-use Rattle.rest_law.proofs.Search.{held_runs}
+use Rattle.rest_law.proofs.Search.{held_runs, in_length}
 use Rattle.rest_law.proofs.Secure.{backed_of}
 use Rattle.rest_law.proofs.Stages.{routers_settle_in_order}
 use Rattle.rest_law.proofs.Graphs.{AreOfGraph, Runs, Steps, held_in, stepped}
@@ -116,7 +116,7 @@ module _ {R : Type 0} (net : Speakers R) (w : World R) (takes : Takes R) (no_lat
     comes_held v u h off (comes.further {z = z} {g = g} other c on t) =
         let b = comes_held u z g other c in
         let y : Route = record { path = u ∷ z ∷ b.path; node = b.node } in
-        let runs : Runs setup u y = record { rest = z ∷ b.path; begins = refl; runs = held_runs setup formed r (backed_of setup r partly) (u ∷ z ∷ b.path) b.node b.held } in
+        let runs : Runs setup u y = record { rest = z ∷ b.path; begins = refl; runs = held_runs setup (λ q. length q) (in_length setup) formed r (backed_of setup r partly) (u ∷ z ∷ b.path) b.node b.held } in
         let a = of_graph.down u v y h (open_at u other).0 (open_at v off).0 runs on (ap (λ (k : R). takes v u (said net w u v (Some k))) (sym b.is) ∙ t) in
         holds_of v u h y (z ∷ b.path) a.0 refl (open_at v off) a.1 a.2 (inr b.held)
 

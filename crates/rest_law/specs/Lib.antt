@@ -5,4 +5,5 @@ pub mod Laws
 pub mod Orders
 pub mod Rounds
 pub mod Partial
+pub mod Sizes
 pub mod SecureLaws

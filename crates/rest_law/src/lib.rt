@@ -2,7 +2,8 @@
 //!
 //! 1. *Some router can always settle.* A settlement gives routes to some locations; the other routers are open. As long as settled routers
 //!    give an open one a route, some open router is secure: what a settled neighbour gives it comes before all that its open neighbours can
-//!    come to give it, by number or, at the same number, by length (`specs/Partial`, `proofs/Secure`). So the routers of a graph settle one
+//!    come to give it, by number or, at the same number, by length (`specs/Partial`, `proofs/Secure`). That is shown where ties are free
+//!    and routes have any size (`specs/Sizes`, `proofs/Next`); `tie_law` has the law. So the routers of a graph settle one
 //!    after another, and what they settle to is the outcome. This asks for the rules of evidence, and knows abstract networks alone.
 //! 2. *Rounds forget.* A round delivers at least what waits when it begins. After it each speaker has heard only what was said since, so what
 //!    can be held after so many rounds is what can be chosen, so many times over, of what can be said (`specs/Holding`). A route grows with

@@ -1,10 +1,12 @@
 pub mod Alone
 pub mod Earlier
 pub mod Later
+pub mod Layered
 pub mod Orders
 pub mod Parts
 pub mod Resters
 pub mod Rest
 pub mod Setting
+pub mod Settles
 pub mod Sides
 pub mod Two

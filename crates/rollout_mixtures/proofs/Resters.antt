@@ -1,7 +1,7 @@
 -- Who rests in a world: who isn't a router that is up, and origins with their own routes.
 use Rattle.std.proofs.Common.{◌≡◌, ℕ, true, false, not, Option, Some, None, refl, ap, ◌∙◌, inl, inr}
 use Rattle.std.specs.Prelude.{is_some}
-use Rattle.std.proofs.lemmas.Bool.{and_from, and_left, and_parts, and_right, both_ways, cond-true, not-false, not-true, not_from_false, not_from_true, or_from, or_left, or_parts, or_right, true_from_ne_false}
+use Rattle.std.proofs.lemmas.Bool.{and_from, and_left, and_parts, and_right, both_ways, cond-false, cond-true, not-false, not-true, not_from_false, not_from_true, or_from, or_left, or_parts, or_right, true_from_ne_false}
 use Rattle.list_law.proofs.Options.{cases_Option, none_or_some, when_parts}
 use Rattle.net_base.specs.Network.{PlainNet, is_router}
 use Rattle.net_base.specs.Prefixes.{PlainPrefix}
@@ -58,6 +58,10 @@ module _ (net : PlainNet) (policy : PlainPolicy) (config : PlainConfig) (p : Pla
 
   pub dead_rests : w.down r ≡ true → rests X w r ≡ true
   dead_rests down = or_left (not (running X w r)) (is_some own) (ap not (and_right (is_router net r) (not (w.down r)) (not_from_true (w.down r) down)))
+
+  -- what is down is at rest without a route
+  pub down_at_rest : w.down r ≡ true → at_rest X w r ≡ None
+  down_at_rest down = cond-false (running X w r) own None (and_right (is_router net r) (not (w.down r)) (not_from_true (w.down r) down))
 
   pub at_rest_up : (y : Route) → at_rest X w r ≡ Some y → (is_router net r ≡ true) × (w.down r ≡ false)
   at_rest_up y e =

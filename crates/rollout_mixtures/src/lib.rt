@@ -1,4 +1,4 @@
-//! Mixtures of the lines of two configurations come to rest: laws without code.
+//! Mixtures of the lines of two configurations come to rest, in two layers: laws without code.
 //!
 //! On the way from an old configuration to a new one some routers already have the new starts, some haven't, some have the lines of
 //! both (`IsBetween` of `specs/Between`). As long as nobody loads anything, messages come to an end, whatever was run and loaded
@@ -11,14 +11,24 @@
 //! comes to the others, and these settle as in the old network where besides they are dead (`proofs/Earlier`). `proofs/Setting`
 //! compares one side with its own network, what is said and what is taken; `proofs/Rest` puts the two orders together.
 //!
-//! Nothing here knows how stages are made, or what a policy allows.
+//! So what is held at rest is the new side's own outcome where those routers are dead, and of the others the old side's own
+//! (`specs/Layered`). `proofs/Settles` has the order of a side together with the settled outcome that it leads to.
+//!
+//! Nothing here knows how stages are made.
 #![tactic(auto)]
 
 ghost use Rattle.rollout_mixtures.specs.Laws.{MixturesComeToRest, RolloutsAreBetween};
+ghost use Rattle.rollout_mixtures.specs.Layered.{RestingMixturesAreLayered};
 
 /// From the moment on when nobody loads any more, so many rounds of deliveries end all messages, whatever each router runs of an old and
 /// a new configuration. Each part of a rollout is such.
 pub fn mixtures_come_to_rest()
     ensures between { RolloutsAreBetween }
     ensures rest { MixturesComeToRest }
+{}
+
+/// Where no message waits, what a mixture holds is the new configuration's settled outcome where routers that haven't flipped are dead for it, and of
+/// the other routers the old one's with the rest dead. Each layer is right for its own policy.
+pub fn resting_mixtures_are_layered()
+    ensures { RestingMixturesAreLayered }
 {}

@@ -1,5 +1,5 @@
 -- Pairs of a class of an old configuration and a class of a new one, with the patterns that they share.
-use Rattle.std.specs.Prelude.{ℕ, ◌+◌, Bool, ◌&&◌, ◌||◌, nat_le, min, List, [], ◌∷◌, ◌++◌, length, Option, Some, None, if◌then◌else◌}
+use Rattle.std.specs.Prelude.{ℕ, ◌+◌, Bool, ◌&&◌, ◌||◌, nat_le, min, List, [], ◌∷◌, ◌++◌, length, map, Option, Some, None, if◌then◌else◌}
 use Rattle.std.specs.List.{list_any, flat_map}
 use Rattle.net_base.specs.Prefixes.{PlainPattern, contains}
 use Rattle.stage_classes.specs.declared.cell.Cell.{Cell}
@@ -62,3 +62,12 @@ rows before new (c ∷ cs) = row (length before + 1) c before new ++ rows (befor
 -- all, in order of the class of the old configuration and then of that of the new one, where no class stands behind all others
 abbrev pub cells : List (List PlainPattern) → List (List PlainPattern) → List Cell
 cells old new = rows [] new old ++ with_classes (length old + 1) (everything ∷ []) old [] new
+
+-- ---- the other way round
+
+-- the same pair, with the new class first
+abbrev pub turn : Cell → Cell
+turn c = record { first = c.second; second = c.first; patterns = c.patterns }
+
+abbrev pub turned : List Cell → List Cell
+turned cs = map turn cs

@@ -1,6 +1,6 @@
 //! The cells, in order.
 ghost use Rattle.std.specs.Prelude.{◌≡◌, ◌++◌, [], IfOk};
-ghost use Rattle.stage_classes.specs.Cells.{cell_if, cells, row, rows, with_classes};
+ghost use Rattle.stage_classes.specs.Cells.{cell_if, cells, row, rows, turned as all_turned, with_classes};
 
 use crate::patterns::{common, everything};
 use net_base::{List, Pattern};
@@ -95,4 +95,19 @@ pub fn cells_of(
     push_rows(alloc, &mut cells, old, new)?;
     push_classes(alloc, &mut cells, old.len() + 1, &[everything()], old, new)?;
     Ok(cells)
+}
+
+/// The same cells, in the same order, where the two lists of classes change places.
+pub fn turned(alloc: Global, cells: &[Cell]) -> Result<List<Cell>, AllocError>
+    ensures { IfOk result (λ l. l ≡ all_turned cells.now) }
+{
+    let mut turned = List::new(alloc);
+    for cell in cells {
+        turned.push(Cell {
+            first: cell.second,
+            second: cell.first,
+            patterns: cell.patterns.copy(alloc)?,
+        })?;
+    }
+    Ok(turned)
 }

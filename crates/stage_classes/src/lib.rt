@@ -20,5 +20,5 @@ mod cell;
 mod laws;
 mod patterns;
 
-pub use cell::{Cell, cells_of};
+pub use cell::{Cell, cells_of, turned};
 pub use laws::cells_are_pairs;

@@ -3,3 +3,4 @@ pub mod Found
 pub mod OwnLines
 pub mod Says
 pub mod Lawful
+pub mod Turning

@@ -17,7 +17,7 @@ use Rattle.stage_blocks.proofs.Ordered.{Ascend-append, Ascend-cons, each_below}
 use Rattle.stage_blocks.proofs.Spreading.{find-map, find-filter, none_passes, or_none, other_number}
 use Rattle.stage_maker.specs.Joined.{belongs, is_of_class, own_from, put_own}
 
-same_prefix-is : (p q : PlainPrefix) → same_prefix p q ≡ true → p ≡ q
+pub same_prefix-is : (p q : PlainPrefix) → same_prefix p q ≡ true → p ≡ q
 same_prefix-is p q h =
     let parts = and_parts (p.bits == q.bits) (p.len == q.len) h in
     λ i. record { bits = eqb-true p.bits q.bits parts.0 i; len = eqb-true p.len q.len parts.1 i }

@@ -7,6 +7,7 @@ use Rattle.net_base.specs.Prefixes.{PlainPrefix, IsPrefix}
 use Rattle.config_base.specs.Configs.{PlainConfig, IsConfig}
 use Rattle.rollout_base.specs.Stages.{IsStage}
 use Rattle.stage_classes.specs.declared.cell.Cell.{Cell}
+use Rattle.stage_classes.specs.Cells.{turned}
 use Rattle.stage_classes.specs.Laws.{cell_of, pair_of}
 use Rattle.stage_maker.specs.Alike.{AreAlike}
 use Rattle.stage_maker.specs.Joined.{joined}
@@ -31,3 +32,7 @@ StagesAreLawful = (cells : List Cell) (start other : PlainConfig) → MayJoin ce
 -- It says of each prefix what a stage says.
 abbrev pub StagesAreMade : Type 0
 StagesAreMade = (net : PlainNet) (cells : List Cell) (start other : PlainConfig) (p : PlainPrefix) → MayJoin cells start other → IsPrefix p → IsStage net p start other (joined cells start other)
+
+-- What serves for a stage with the starts of the one serves, turned round, for a stage with the starts of the other.
+abbrev pub CellsTurn : Type 0
+CellsTurn = (cells : List Cell) (start other : PlainConfig) → MayJoin cells start other → MayJoin (turned cells) other start

@@ -19,4 +19,4 @@ mod laws;
 mod own;
 
 pub use join::joined;
-pub use laws::stages_are_made;
+pub use laws::{cells_turn, stages_are_made};

@@ -17,8 +17,8 @@ use Rattle.rest_law.proofs.Firm.{firm_at_first, with_at, with_cases, with_kept}
 use Rattle.rest_law.proofs.Search.{loop_free_short, search_below}
 use Rattle.rest_law.proofs.Secure.{backed_of}
 use Rattle.tie_law.specs.Ties.{IsNext, IsSize, Size}
-use Rattle.tie_law.proofs.Cycle.{Offered, offer_known}
-use Rattle.tie_law.proofs.Next.{Quiet, next_secure}
+use Rattle.rest_law.proofs.Cycle.{Offered, offer_known}
+use Rattle.rest_law.proofs.Next.{Quiet, next_secure}
 use Rattle.tie_law.proofs.Ties.{settlements_grow, ties_are_next}
 use Rattle.steady_law.specs.Histories.{AreStill, AreTied, History, HoldsRuns, IsRound, IsSteady, IsToldOf, IsTop, TiesSettle, rounds_needed}
 use Rattle.steady_law.proofs.Takes.{Fits, FitsTo, HoldsTo, are_tied, given_some, open_take, tie_settled, ties_given, ties_of, whole_is_held}

@@ -19,7 +19,7 @@ pub(crate) const COMPILE: Row = (
 );
 
 /// Each command, as it ends in each way.
-pub(crate) const ROWS: [Row; 33] = [
+pub(crate) const ROWS: [Row; 37] = [
     COMPILE,
     (
         "evidence",
@@ -177,4 +177,28 @@ pub(crate) const ROWS: [Row; 33] = [
         Status::Done,
     ),
     ("maps", &[Text::Config], &[], Status::Done),
+    (
+        "between",
+        &[Text::Config, Text::Config],
+        &["2"],
+        Status::Done,
+    ),
+    (
+        "renew",
+        &[Text::Routers, Text::AnyPath, Text::Config],
+        &[],
+        Status::Done,
+    ),
+    (
+        "renewal",
+        &[Text::Routers, Text::AnyPath, Text::Config],
+        &[],
+        Status::Done,
+    ),
+    (
+        "waiting",
+        &[Text::Routers, Text::AnyPath, Text::Events],
+        &[],
+        Status::Done,
+    ),
 ];

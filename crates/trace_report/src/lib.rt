@@ -9,5 +9,5 @@ mod tracing;
 
 pub use happening::happen;
 pub use refused::{Refused, push_each_refused};
-pub use reporting::{Standing, trace_report};
+pub use reporting::{Standing, push_quiet, trace_report};
 pub use tracing::trace;

@@ -46,7 +46,7 @@ impl Scene for Standing<'_> {
 }
 
 /// Adds whether no message waits.
-fn push_quiet(text: &mut Vec<u8>, quiet: bool) -> Result<(), NoMemory>
+pub fn push_quiet(text: &mut Vec<u8>, quiet: bool) -> Result<(), NoMemory>
     ensures { OnOk result (text.new.items ≡ text.old.items ++ quiet_line quiet) }
 {
     if quiet {

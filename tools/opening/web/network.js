@@ -83,11 +83,13 @@ function showSites(changed, { heat, count, free }) {
   }
 }
 
-/** A sign for messages that wait in a direction of a link. */
-function waitingSign({ from, to, count, isMore }) {
+const SIGNS = { right: "▸▹", left: "◂◃", down: "▾▿", up: "▴▵" }; // the second of each where the first message withdraws a route
+
+/** A sign for messages that wait in a direction of a link, with how many. */
+function waitingSign({ from, to, messages }) {
   const [x, y] = picture.at.get(from), [u, v] = picture.at.get(to);
-  const sign = Math.abs(u - x) > Math.abs(v - y) ? (u > x ? "▸" : "◂") : v > y ? "▾" : "▴";
-  return `${sign}${count > 1 ? count : ""}${isMore ? "+" : ""}`;
+  const way = Math.abs(u - x) > Math.abs(v - y) ? (u > x ? "right" : "left") : v > y ? "down" : "up";
+  return `${SIGNS[way][messages[0] ? 0 : 1]}${messages.length > 1 ? messages.length : ""}`;
 }
 
 function showLinks({ heat, count, free, waiting = [] }) {
@@ -171,4 +173,5 @@ function begin() {
 
 on("show", showNetwork);
 on("over", light);
+on("glance", light);
 export { begin as drawNetwork };

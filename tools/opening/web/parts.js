@@ -22,10 +22,11 @@ export const head = (said) => el("h2", {}, said);
 export const text = (...said) => el("p", { class: "text" }, ...said);
 export const button = (said, onclick, more = {}) => el("button", { type: "button", onclick, ...more }, said);
 
-/** A row of a list, about a router or a link: the picture shows which while the pointer or the focus is on it. */
-export function row(who, what, go, id) {
-  const enter = () => over(isLink(id) ? "link" : "node", id);
-  return el("button", { class: "item", type: "button", onclick: go, onpointerenter: enter, onpointerleave: () => over(), onfocus: enter },
+/** A row of a list, about a router or a link: the picture shows which while the pointer or the focus is on it. With `glance` for `look`
+ * it alone does, so that rows which do something at a click stay where they are. */
+export function row(who, what, go, id, more = {}, look = over) {
+  const enter = () => look(isLink(id) ? "link" : "node", id);
+  return el("button", { class: "item", type: "button", ...more, onclick: go, onpointerenter: enter, onpointerleave: () => look(), onfocus: enter },
     el("span", { class: "who" }, who), el("span", { class: "what" }, what));
 }
 

@@ -10,13 +10,14 @@ let choose = () => {};
 /** Calls this where a case is chosen, with a prefix of it and its statement. */
 export const onCase = (call) => { choose = call; };
 
-/** How many sources have which rank, the best first. */
-function rankChips(sources) {
+/** How many sources have which rank, the best first, with the alternative of the rank. */
+function rankChips(sources, alternatives) {
   const groups = grouped(sources, ({ rank }) => rank);
   groups.sort(([one], [other]) => (one.rank || Infinity) - (other.rank || Infinity));
   return groups.map((group) => {
     const [{ rank }] = group;
-    return chip(rank ? `rank${Math.min(rank, 4)}` : "none", `${group.length} × ${rank ? `rank ${rank}` : "no path"}`);
+    return chip(rank ? `rank${Math.min(rank, 4)}` : "none", `${group.length} × ${rank ? `rank ${rank}` : "no path"}`,
+      { title: alternatives[rank - 1] ?? "" });
   });
 }
 
@@ -33,7 +34,7 @@ function groupShown(group, prefixOf) {
   return [
     el("button", { class: "promise", type: "button", "data-cases": ` ${numbers} `, onclick: () => go(each) },
       el("b", {}, some(patterns, 2)), el("small", {}, `statement ${each.statement}, from ${origins}`),
-      el("span", { class: "chips" }, rankChips([...each.routers, ...each.sessions]),
+      el("span", { class: "chips" }, rankChips([...each.routers, ...each.sessions], shown.ranks.get(each.statement) ?? []),
         each.unclaimed.length ? chip("warn", `${each.unclaimed.length} unclaimed`, { title: each.unclaimed.join(", ") }) : null,
         each.transit.length ? chip("transit", `${each.transit.length} transit`, { title: each.transit.join(", ") }) : null,
         each.isCovered ? chip("warn", "covered", { title: "no prefix of it is left" }) : null,

@@ -35,32 +35,54 @@ const emptyCase = (number, statement) =>
   ({ number, statement, prefixes: [], origins: [], routers: [], sessions: [], unclaimed: [], transit: [], unused: [],
     isCovered: false });
 
+// A word of a `prefix` line: the patterns of a case, which stand behind commas.
+const WORD = /[^ ]+(?: le [0-9]+(?:,[^ ]+)?)*/g;
+
+const pairsOf = (names) => names.flatMap((name, at) => (at % 2 ? [] : [[name, names[at + 1]]]));
+
+/** What a line of a group says of each of its cases. Of the routers that it names those are left out that are origins of the case. */
+function noteCase(each, words) {
+  const [kind, what] = words, names = words.slice(2), isEnd = (name) => each.origins.includes(name);
+  if (kind === "source") {
+    const rank = Number(names.at(-1)) || 0, who = names.slice(0, -2);
+    if (what === "router") each.routers.push(...who.filter((name) => !isEnd(name)).map((name) => ({ name, rank })));
+    else each.sessions.push(...pairsOf(who).map(([router, peer]) => ({ router, peer, rank })));
+  } else if (kind === "unclaimed" && what === "session") each.unclaimed.push(...pairsOf(names).map((pair) => `session ${pair.join(" ")}`));
+  else if (kind === "unclaimed") each.unclaimed.push(...names.filter((name) => !isEnd(name)).map((name) => `${what} ${name}`));
+  else if (kind === "transit") each.transit.push(...names.filter((name) => !isEnd(name)));
+  else if (kind === "covered") each.isCovered = true;
+  else if (kind === "unused") each.unused.push(...names.filter(isEnd));
+}
+
 /** A pattern inside an originated prefix that peers are believed in, and the case. */
 function openOf(line) {
   const [pattern, rest] = line.slice(5).split(" in "), [prefix, , number] = rest.split(" ");
   return { pattern, prefix, number: Number(number) };
 }
 
-/** What `promises` says: its cases, what no statement governs, what peers are believed in inside the own space, and its last line. */
+/**
+ * What `promises` says: its cases, each alone though cases that say the same stand together in the text; the alternative of each rank of
+ * each statement; what no statement governs, what peers are believed in inside the own space, and its last line.
+ */
 export function promisesOf(text) {
-  const cases = [], uncarried = [], open = [];
-  let last = "";
+  const cases = [], ranks = new Map(), uncarried = [], open = [];
+  let last = "", group = [], alternatives = [];
   for (const line of text.split("\n")) {
-    const words = line.split(" "), now = cases.at(-1);
-    if (words[0] === "case") cases.push(emptyCase(Number(words[1]), Number(words[3])));
-    else if (words[0] === "prefix") now.prefixes.push(line.slice(7));
-    else if (words[0] === "origin") now.origins.push(words[1]);
-    else if (words[0] === "source" && words[1] === "router") now.routers.push({ name: words[2], rank: Number(words[4]) || 0 });
-    else if (words[0] === "source") now.sessions.push({ router: words[2], peer: words[3], rank: Number(words[5]) || 0 });
-    else if (words[0] === "unclaimed") now.unclaimed.push(line.slice(10));
-    else if (words[0] === "transit") now.transit.push(words[2]);
-    else if (words[0] === "covered") now.isCovered = true;
-    else if (words[0] === "unused") now.unused.push(words[2]);
-    else if (words[0] === "uncarried") uncarried.push(words[1]);
-    else if (words[0] === "open") open.push(openOf(line));
-    else if (words[0] === "cases") last = line;
+    const words = line.split(" "), [kind] = words;
+    if (kind === "statement") ranks.set(Number(words[1]), alternatives = []);
+    else if (kind === "rank") alternatives.push(words.slice(2).join(" "));
+    else if (kind === "case") {
+      group = words.slice(1, words.indexOf("statement")).map((number) => emptyCase(Number(number), Number(words.at(-1))));
+      cases.push(...group);
+    } else if (kind === "prefix") line.slice(7).match(WORD).forEach((word, at) => group[at].prefixes.push(...word.split(",")));
+    else if (kind === "origin") words.slice(1).forEach((word, at) => group[at].origins.push(...word.split(",")));
+    else if (kind === "uncarried") uncarried.push(...words.slice(1));
+    else if (kind === "open") open.push(openOf(line));
+    else if (kind === "cases") last = line;
+    else group.forEach((each) => noteCase(each, words));
   }
-  return { cases, uncarried, open, last };
+  cases.sort((one, other) => one.number - other.number);
+  return { cases, ranks, uncarried, open, last };
 }
 
 /** A link or a router that is cut: what it is called, how many others move or shift, and whose best rank changes. */
@@ -123,6 +145,18 @@ export function freeOf(text) {
     else last = line;
   }
   return { free, last };
+}
+
+/** What `waiting` says: the directions in which messages wait, each with its messages, the first one first: a path, or null to withdraw. */
+export function waitingOf(text) {
+  const ways = new Map();
+  for (const line of text.split("\n")) {
+    const [word, from, to, what, ...path] = line.split(" "), way = `${from} ${to}`;
+    if (word !== "waits") continue;
+    if (!ways.has(way)) ways.set(way, { from, to, messages: [] });
+    ways.get(way).messages.push(what === "path" ? path : null);
+  }
+  return [...ways.values()];
 }
 
 /** How a router stands, in words. */

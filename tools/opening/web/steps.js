@@ -2,15 +2,16 @@
 
 import { beginAgain, eventTold, happen, runToRest } from "./actions.js";
 import { answers, askReport, changesFrom } from "./answers.js";
+import * as api from "./api.js";
 import { el, many } from "./dom.js";
-import { show } from "./hub.js";
-import { button, changeRows, head, text } from "./parts.js";
+import { glance, show } from "./hub.js";
+import { button, changeRows, chip, head, row, text } from "./parts.js";
+import { waitingOf } from "./read.js";
 import { chosen, clear, eventText } from "./state.js";
 import { linkKey } from "./topology.js";
-import { messagesWaiting } from "./waiting.js";
 
-const MOST_BUTTONS = 60, MOST_EVENTS = 40;
-/** The directions in which messages wait; null while they aren't known. */
+const MOST_ROWS = 60, MOST_EVENTS = 40, MOST_TOLD = 3; // messages of one direction
+/** The directions in which messages wait, each with them; null while they aren't known. */
 const held = { waiting: null };
 
 const FAILURES = { // what an event puts into which set, or takes out of it
@@ -29,9 +30,12 @@ function failed() {
 }
 
 async function askSteps(policy) {
-  if (!await askReport(policy, chosen.rest ? "settle" : "trace", eventText(chosen.events))) return;
+  const events = eventText(chosen.events), { rest } = chosen, asked = rest ? null : api.ask("waiting", policy, events);
+  if (!await askReport(policy, rest ? "settle" : "trace", events)) return;
   failed();
-  held.waiting = chosen.rest || answers.report.quiet ? [] : await messagesWaiting(policy);
+  const said = await asked;
+  if (!rest && !said) return; // a newer question has taken its place
+  held.waiting = rest ? [] : said.status === 0 ? waitingOf(said.output) : null;
   show();
 }
 
@@ -46,7 +50,7 @@ function stateSaid() {
 }
 
 function tools(waiting) {
-  const round = () => happen(...waiting.flatMap((each) => Array(each.count).fill(deliver(each))));
+  const round = () => happen(...waiting.flatMap((each) => each.messages.map(() => deliver(each))));
   const isAtRest = !answers.report || chosen.rest || answers.report.quiet;
   return el("div", { class: "tools" },
     button("Deliver next", () => happen(deliver(waiting[0])), { class: "main", id: "next", disabled: !waiting.length }),
@@ -55,8 +59,15 @@ function tools(waiting) {
     button("Begin again", beginAgain, { class: "quiet" }));
 }
 
-const countSaid = ({ count, isMore }) => (count > 1 ? ` ×${count}${isMore ? "+" : ""}` : "");
-const waitingButton = (each) => button(`${each.from} → ${each.to}${countSaid(each)}`, () => happen(deliver(each)));
+const messageSaid = (path) => (path ? path.join(" → ") : chip("none", "withdraw"));
+
+/** A direction with its messages: a click delivers the first one. */
+function waitingRow(each) {
+  const told = each.messages.slice(0, MOST_TOLD).flatMap((path, k) => [k ? ", then " : null, messageSaid(path)]);
+  const more = each.messages.length - MOST_TOLD;
+  return row(`${each.from} → ${each.to}`, [told, more > 0 ? `, and ${many(more, "more message")}` : null], () => happen(deliver(each)),
+    linkKey(each.from, each.to), { "data-way": `${each.from}>${each.to}` }, glance);
+}
 
 function eventSaid(event, number) {
   const refused = answers.report?.events.get(number);
@@ -67,8 +78,8 @@ function list(changed) {
   const waiting = held.waiting ?? [], count = chosen.events.length;
   return [
     head("BGP, message by message"), text(stateSaid()), tools(waiting),
-    waiting.length ? head("Waiting") : null,
-    el("div", { class: "tools" }, waiting.slice(0, MOST_BUTTONS).map(waitingButton)),
+    waiting.length ? head("Waiting") : null, waiting.slice(0, MOST_ROWS).map(waitingRow),
+    waiting.length > MOST_ROWS ? text(`And ${many(waiting.length - MOST_ROWS, "more direction")}.`) : null,
     changed.length ? head(answers.cause) : null, changeRows(changed),
     count ? head(many(count, "event")) : null,
     chosen.events.slice(-MOST_EVENTS).map((event, at, last) => eventSaid(event, count - last.length + at + 1)).reverse(),
@@ -84,5 +95,5 @@ export const steps = {
   changes: () => changesFrom(answers.before),
   paint: () => ({ waiting: held.waiting ?? [] }),
   list,
-  legend: () => [el("b", { class: "sign" }, "▸ a message waits")],
+  legend: () => [el("b", { class: "sign" }, "▸ a message waits"), el("b", { class: "sign" }, "▹ it withdraws a route")],
 };

@@ -8,33 +8,30 @@ from paging import TWO_EXITS, Paged
 
 # What a reader has found, as the table says it: the names that it fills, and nothing for those that stay empty.
 FOUND = """import('./read.js').then(m => %s.map(([reader, text]) => {
-  const r = m[{ report: 'reportOf', promises: 'promisesOf', cuts: 'cutsOf', free: 'freeOf', spread: 'spreadOf' }[reader]](text), stands = (s) => [s.state, s.rank, s.path],
+  const r = m[{ report: 'reportOf', promises: 'promisesOf', cuts: 'cutsOf', free: 'freeOf', spread: 'spreadOf', waits: 'waitingOf' }[reader]](text), stands = (s) => [s.state, s.rank, s.path],
     sends = (s) => [s.state, s.rank, s.hops, s.next];
-  const now = r.cases?.at(-1), cut = r.cuts?.at(-1);
+  const now = r.cases?.[0] ?? { prefixes: [], origins: [], unclaimed: [], routers: [], sessions: [], transit: [], unused: [] }, cut = r.cuts?.at(-1);
   const said = {
     report: () => ({ prefix: r.prefix, class: r.class, quiet: r.quiet, rounds: r.rounds, deliveries: r.deliveries, events: [...r.events],
       routers: [...r.routers].map(([name, s]) => [name, ...stands(s)]), sessions: r.sessions.map((s) => [s.router, s.peer, ...stands(s)]) }),
     promises: () => ({ cases: r.cases.map((c) => [c.number, c.statement]), prefixes: now.prefixes, origins: now.origins, unclaimed: now.unclaimed,
       sources: [...now.routers.map((s) => [s.name, '', s.rank]), ...now.sessions.map((s) => [s.router, s.peer, s.rank])],
-      transit: now.transit, covered: r.cases.filter((c) => c.isCovered).map((c) => c.number), unused: now.unused,
+      transit: now.transit, covered: now.isCovered ? [now.number] : [], unused: now.unused, ranks: [...r.ranks],
       uncarried: r.uncarried, open: r.open.map((o) => [o.pattern, o.prefix, o.number]), last: r.last }),
     cuts: () => ({ cut: cut && [cut.kind, cut.id, cut.moves, cut.shifts], lost: cut?.lost, worse: cut?.worse.map(({ who, rank }) => [who, rank]), last: r.last }),
     free: () => ({ free: [...r.free], last: r.last }),
     spread: () => ({ routers: [...r.routers].map(([name, s]) => [name, ...sends(s)]), sessions: r.sessions.map((s) => [s.router, s.peer, ...sends(s)]),
       idle: [...r.idle], last: r.last }),
+    waits: () => ({ waits: r.map((way) => [way.from, way.to, way.messages]) }),
   }[reader]();
   return Object.fromEntries(Object.entries(said).filter(([, each]) => each !== null && each !== undefined && each !== '' && each.length !== 0));
 }))"""
-BEFORE = {"promises": {"cases": [[2, 3]]}, "cuts": {}}
 
 
 class Lines(Paged):
     def test_lines(self) -> None:
+        """A line says what is found with it and isn't found without it."""
         self.open(*TWO_EXITS)
-        found = self.browser.eval(FOUND % json.dumps([[row.reader, row.text()] for row in ROWS]))
-        for row, said in zip(ROWS, found):
-            wanted = dict(row.says)
-            if row.before:
-                wanted = BEFORE[row.reader] | wanted
-                said.pop("cut", None)
-            self.assertEqual(said, wanted, row.line)
+        found = self.browser.eval(FOUND % json.dumps([[row.reader, text] for row in ROWS for text in (row.text(), row.before)]))
+        for row, said, before in zip(ROWS, found[::2], found[1::2]):
+            self.assertEqual({name: each for name, each in said.items() if each != before.get(name)}, row.says, row.line)

@@ -5,7 +5,7 @@ import json
 import re
 
 from paging import ABILENE, CLOS, FABRIC, TWO_EXITS, WAYS, Paged, shown
-from serving import text_of
+from serving import Served, text_of
 
 
 class Routes(Paged):
@@ -98,11 +98,36 @@ class OtherViews(Paged):
         self.link("R1", "P1")
         self.assertIn("directions with messages that wait" if self.waiting() != 1 else "1 direction", self.said("#view"))
         self.assertTrue(self.waiting())
+        self.waits_as_told(served, policy)
         self.click("#rest")
         self.assertEqual(self.report(), shown(self.program(served, "replay", policy, prefix, cut=[["R1", "P1"]])))
         events = json.dumps({"prefix": prefix, "events": self.chosen("events")})
         said = str(served.ask("settle", policy, events, "test")["output"])
         self.assertEqual(f"rounds {self.browser.eval('propane.answers.report.rounds')}\n", said.splitlines(True)[0])
+
+    def waits_as_told(self, served: Served, policy: str) -> None:
+        """The rows of the list are the program's messages, by their directions, the first of each first."""
+        events = json.dumps({"prefix": self.chosen("prefix"), "events": self.chosen("events")})
+        told: dict[str, list[str]] = {}
+        for words in map(str.split, str(served.ask("waiting", policy, events, "test")["output"]).splitlines()[:-1]):
+            told.setdefault(f"{words[1]} → {words[2]}", []).append(" → ".join(words[4:]) or "withdraw")
+        rows = self.browser.eval("[...document.querySelectorAll('#view > .item[data-way]')].map(e=>[...e.children].map(c=>c.textContent))")
+        self.assertEqual(rows, [[way, ", then ".join(said)] for way, said in told.items()])
+
+    def test_messages_are_those_of_waiting(self) -> None:
+        served, policy = self.open(*TWO_EXITS), text_of(TWO_EXITS[1])
+        self.click("[data-mode=steps]")
+        self.waits_as_told(served, policy)
+        for first, second in ("P1", "R1"), ("P2", "R2"):
+            self.click(f"#view [data-way='{first}>{second}']")
+        for _ in range(2):
+            self.link("R1", "P1")
+        self.waits_as_told(served, policy)
+        self.assertIn("R1 → P1, then withdraw", self.said("#view"))
+        self.click("#view [data-way='P1>R1']")
+        self.waits_as_told(served, policy)
+        self.assertIn("R1 → P1, then withdraw, then R1 → P1", self.said("#view"))
+        self.assertEqual(self.browser.eval("document.querySelector('[data-link=\"R1~R2\"] .n-count').textContent.replace(/[^0-9]/g, '')"), "3")
 
     def waiting(self) -> int:
         """In how many directions messages wait, as the page says it."""

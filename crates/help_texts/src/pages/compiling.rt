@@ -88,6 +88,40 @@ example
   propane routemap topology.json policy.propane
 ";
 
+/// How `between` is used.
+pub const BETWEEN: &str = "usage: propane between BEFORE AFTER STAGE
+
+Writes a configuration on the way from an old one to a new one, for a network
+that runs. Stage 1 has the lines of both and begins routes as the old one does;
+stage 2 has the lines of both and begins routes as the new one does. Load stage
+1 everywhere, then stage 2 everywhere, and once nothing waits the new one. Both
+must be of the same routers with the same neighbours. Where two classes share a
+prefix and their lines aren't the same, no tag may stand in both, and the new
+preferences must be above the old ones, as those that are renewed are.
+
+reads
+  BEFORE  the old configuration's text, of the second edition
+  AFTER   the new configuration's text, of the second edition
+  STAGE   1 or 2; this is no name of a file
+
+writes
+  output        the text of the stage; on status 7 a line of what is in the way
+  error output  on status 1, 3 and 4 one line that says why
+
+status
+  0  the stage is written
+  1  the stage would have too many lines
+  3  an input is too long, or no text of the second edition
+  4  an input cannot be read
+  5  the output, or the line, cannot be written whole
+  6  memory is refused; nothing is written
+  7  the two cannot be mixed
+
+example
+  cd examples/two-exits
+  propane between compile.stdout renewed-config.txt 1
+";
+
 /// How `maps` is used.
 pub const MAPS: &str = "usage: propane maps CONFIG
 
@@ -114,6 +148,66 @@ status
 example
   cd examples/two-exits
   propane maps compile.stdout
+";
+
+/// How `renew` is used.
+pub const RENEW: &str = "usage: propane renew TOPO POLICY CONFIG
+
+Compiles the policy as compile does, into a configuration that may take over
+from CONFIG while the network runs: at each router its tags are the least that
+stand nowhere in CONFIG, and each preference is raised by the greatest of
+CONFIG. It keeps the policy as what compile writes does. No tag stands in both,
+and each of its preferences is above each of CONFIG. CONFIG may be of any
+network; its tags and its preferences alone matter.
+
+reads
+  TOPO    a topology text: routers, peers and links
+  POLICY  a policy text for that network: the new one
+  CONFIG  the old configuration, a text of the second edition
+
+writes
+  output        the configuration text, a block for each router
+  error output  on status 1, 3 and 4 one line that says why
+
+status
+  0  the configuration is written
+  1  the policy is refused, or preferences run out
+  3  an input is too long, or no text of its kind
+  4  an input cannot be read
+  5  the output, or the line, cannot be written whole
+  6  memory is refused; nothing is written
+
+example
+  cd examples/two-exits
+  propane renew topology.json policy.propane compile.stdout
+";
+
+/// How `renewal` is used.
+pub const RENEWAL: &str = "usage: propane renewal TOPO POLICY CONFIG
+
+Writes the evidence for what renew writes of the same texts: it passes check
+with that.
+
+reads
+  TOPO    a topology text: routers, peers and links
+  POLICY  a policy text for that network: the new one
+  CONFIG  the old configuration, a text of the second edition
+
+writes
+  output        the evidence text, one line of JSON
+  error output  on status 1, 3 and 4 one line that says why
+
+status
+  0  the evidence is written
+  1  the policy is refused, or preferences run out
+  3  an input is too long, or no text of its kind
+  4  an input cannot be read
+  5  the output, or the line, cannot be written whole
+  6  memory is refused; nothing is written
+
+example
+  cd examples/two-exits
+  propane renewal topology.json policy.propane compile.stdout
 ";
 
 /// How `migrate` is used.

@@ -159,6 +159,37 @@ example
   propane settle topology.json policy.propane flap-begins.json
 ";
 
+/// How `waiting` is used.
+pub const WAITING: &str = "usage: propane waiting TOPO POLICY EVENTS
+
+Compiles the policy, lets the events happen one after another as trace does, and
+tells which messages wait then: in both directions of each link, the first one
+first, and of each the path that it announces, or that it withdraws one. So it
+says what each further delivery would deliver. Events that cannot happen are
+passed over; trace tells them, and what each router holds.
+
+reads
+  TOPO    a topology text: routers, peers and links
+  POLICY  a policy text for that network
+  EVENTS  an event text: what happens, and the prefix
+
+writes
+  output        a line for each message that waits, and whether all is quiet
+  error output  on status 1, 3 and 4 one line that says why
+
+status
+  0  the lines are written
+  1  the policy is refused
+  3  an input is too long, or no text of its kind
+  4  an input cannot be read
+  5  the output, or the line, cannot be written whole
+  6  memory is refused; nothing is written
+
+example
+  cd examples/two-exits
+  propane waiting topology.json policy.propane flap-begins.json
+";
+
 /// How `promises` is used.
 pub const PROMISES: &str = "usage: propane promises TOPO POLICY
 

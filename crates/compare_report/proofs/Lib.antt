@@ -1,0 +1,4 @@
+pub mod Borrowed
+pub mod RowsTold
+pub mod Telling
+mod Unchanged

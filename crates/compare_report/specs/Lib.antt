@@ -1,0 +1,4 @@
+pub mod Changes
+pub mod Groups
+pub mod Kinds
+pub mod Parts

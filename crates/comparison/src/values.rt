@@ -1,0 +1,16 @@
+//! What two policies change.
+use compare_base::{Pair, PairChange};
+use net_base::List;
+
+/// A pair of cases with its prefixes, and what the policies change for these.
+#[derive(Drop)]
+pub struct ComparedPair {
+    pub pair: Pair,
+    pub change: PairChange,
+}
+
+/// All pairs of two policies, in order.
+#[derive(Drop)]
+pub struct Comparison {
+    pub pairs: List<ComparedPair>,
+}

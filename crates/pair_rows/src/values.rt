@@ -1,0 +1,17 @@
+//! Rows that are met at places.
+use compare_base::{Place, Row};
+
+/// A row that walks of a place have, and the node of a graph of pairs at the place's router over which they go.
+#[derive(Clone, Copy)]
+pub struct Met {
+    pub place: Place,
+    pub row: Row,
+    pub node: u32,
+}
+
+/// A row of a place, with the least node with which it is met.
+#[derive(Clone, Copy)]
+pub struct FirstRow {
+    pub row: Row,
+    pub node: u32,
+}

@@ -1,8 +1,0 @@
-use Rattle.std.proofs.Common.{◌≡◌, ◌++◌, take}
-use Rattle.std.specs.List.{flat_map}
-use Rattle.promises_report.specs.Telling.{promises_in}
-use Rattle.promises_report.specs.Texts.{source_line}
-use Rattle.promises_report.proofs.case.push_sources.Given as goal
-
-abbrev pub invariant-loop-place : goal.invariant-loop-place
-invariant-loop-place l = l.text.items ≡ l.initial.text.items ++ flat_map (source_line l.net (promises_in l.told)) (take l.place-index l.places)

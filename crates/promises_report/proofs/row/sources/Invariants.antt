@@ -1,0 +1,8 @@
+use Rattle.std.proofs.Common.{◌≡◌, map}
+use Rattle.net_base.specs.Locations.{numbers_below}
+use Rattle.promises_report.specs.Telling.{promises_in}
+use Rattle.promises_report.specs.Standings.{as_source}
+use Rattle.promises_report.proofs.row.sources.Given as goal
+
+abbrev pub invariant-loop-place : goal.invariant-loop-place
+invariant-loop-place l = l.list ≡ map (as_source l.case (promises_in l.told)) (numbers_below l.place)

@@ -1,0 +1,2 @@
+pub mod RenewalLaws
+pub mod Renewals

@@ -1,0 +1,20 @@
+//! The commands `renew` and `renewal`: what is compiled from a policy is written so that it may take over from an old configuration,
+//! while the network runs.
+//!
+//! `renew` writes the configuration and `renewal` the evidence for it. Both compile the policy, and give what is compiled tags that stand
+//! nowhere in the old configuration, and preferences above all of its own (`evidence_renewal`). So they share one function, and what
+//! they write goes together: `check` says that it holds.
+//!
+//! The texts are judged in the order in which they are named, the old configuration last. Then the policy may be refused, as by
+//! `compile`; and where it isn't, a preference may pass 4,294,967,295: then `refused 10 preferences-run-out` names the old one above
+//! which there are too few.
+//!
+//! The old configuration may be of any network, and nothing says that it is right: its tags and its preferences alone matter.
+//! Nothing here knows stages.
+#![tactic(auto)]
+
+mod lines;
+mod renew;
+
+pub use lines::run_out_line;
+pub use renew::renewal_texts;

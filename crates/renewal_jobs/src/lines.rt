@@ -1,0 +1,18 @@
+//! What is said of preferences that run out.
+ghost use Rattle.std.specs.Prelude.{◌≡◌, IfOk};
+ghost use Rattle.renewal_jobs.specs.Renewing.{run_out_line as line_of};
+
+use input_output::NoMemory;
+use std::alloc::Global;
+use text_parts::{push_bytes, push_number};
+
+/// The line of the refusal that above this preference there are too few.
+pub fn run_out_line(alloc: Global, top: u32) -> Result<Vec<u8>, NoMemory>
+    ensures { IfOk result (λ v. v.items ≡ line_of top) }
+{
+    let mut line = Vec::new(alloc);
+    push_bytes(&mut line, b"propane: refused 10 preferences-run-out pref ")?;
+    push_number(&mut line, u64::from(top))?;
+    push_bytes(&mut line, b"\n")?;
+    Ok(line)
+}

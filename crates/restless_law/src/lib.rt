@@ -1,0 +1,17 @@
+//! Networks that never rest: what `steady_law` asks for is needed. Laws without code.
+//!
+//! `steady_law` says that rounds settle where each router compares lengths and stays with a route while what ties with it stays the same. Here
+//! are two networks of three places, with one node each, which lack one of these and never rest (`specs/Restless`):
+//!
+//! - `proofs/Free`: a router between two peers, whose routes tie, takes now the one and now the other.
+//! - `proofs/Equal`: three routers, each linked with the others, one of which is the origin. Where all paths are alike and ties go to the
+//!   lowest identifier, the other two hold each other's route, then their own, and so on. The origin has the highest identifier.
+#![tactic(auto)]
+
+ghost use Rattle.restless_law.specs.Restless.{WithFreeTies, WithoutLengths};
+
+/// Without steady ties, and without lengths, some network never rests.
+pub fn premises_are_needed()
+    ensures ties { WithFreeTies }
+    ensures lengths { WithoutLengths }
+{}

@@ -1,0 +1,8 @@
+use Rattle.stage_check.proofs.Free.{cells_serve, stages_are_rollouts}
+use Rattle.stage_check.proofs.laws.stages_are_rollouts.Goals as goal
+
+pub returns-clause-cells : goal.returns-clause-cells
+returns-clause-cells c = cells_serve
+
+pub returns-clause-rollouts : goal.returns-clause-rollouts
+returns-clause-rollouts c = stages_are_rollouts

@@ -1,0 +1,26 @@
+//! Whether there are stages between two configurations, and what stands in the way.
+//!
+//! Stages are made of two configurations of the same routers with the same neighbours, where for each pair of a class of the one and a
+//! class of the other that share a prefix either both have the same lines in every block, or no tag stands in both, and the preferences of
+//! the new lines are above those of the old ones. So nothing is asked of a class that stays as it is.
+//!
+//! - `specs/Unlike`: the first router that isn't the same in both (`first_unlike`).
+//! - `specs/Verdicts`: how many lines a stage may have, which tags and preferences are in the way, and what is answered (`verdict`).
+//! - `specs/Stages`: the two stages (`stage_of`).
+//! - `specs/Laws`: where nothing is in the way the stages make a rollout (`StagesAreRollouts`), for every network, prefix and policy.
+//!
+//! Tags apart make a rollout safe. Preferences in order are asked for so that mixtures of old and new routers come to rest.
+//!
+//! Nothing here knows texts, evidence, or how tags and preferences are chosen.
+#![tactic(auto)]
+
+mod judging;
+mod laws;
+mod making;
+mod unlike;
+mod which;
+
+pub use judging::{MAX_LINES, Verdict, verdict_on};
+pub use laws::stages_are_rollouts;
+pub use making::stage_between;
+pub use which::Stage;

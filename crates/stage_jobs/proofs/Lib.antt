@@ -1,0 +1,2 @@
+pub mod BetweenLaws
+pub mod Saying

@@ -1,0 +1,3 @@
+mod Draining
+mod OnLinks
+pub mod OneText

@@ -1,0 +1,99 @@
+"""Configurations that may take over from old ones, and the evidence for them."""
+from runs import ANY_PATH, BAD_INPUT, DONE, EXITS, REFUSED
+from runs.networks import TWO_EXITS, TWO_ROUTERS, TWO_ROUTERS_CONFIG, TWO_ROUTERS_EVIDENCE, WAYPOINT_RING
+
+NOTHING = "propane-config 2\n"
+
+RENEWED_CONFIG = """\
+propane-config 2
+class 1 10.0.1.0/24
+router A asn 64512 id 10.255.0.1
+originate 1 10.0.1.0/24 tag 64512:0:2
+session B asn 64513
+export 1 tag 64512:0:2
+end
+router B asn 64513 id 10.255.0.2
+session A asn 64512
+import 1 tag 64512:0:2 set 64513:0:2 pref 200
+end
+"""
+
+RENEWED_EVIDENCE = ('{"cases":[{"external":false,"nodes":[[0,0,0,200,64512,2],[1,0,1,200,64513,2]],"origins":[0],'
+                    '"prefixes":["10.0.1.0/24"],"starts":[0],"statement":1,"steps":[[0,1]]}],"version":1}\n')
+
+# Of another network: R1 has the tags 1 and 3, R2 has 2, and no preference is above 7. Router 64999 is none of R1 and R2.
+SCATTERED = """\
+propane-config 2
+class 1 0.0.0.0/0 le 32
+router X asn 64999 id 10.255.0.9
+session Y asn 64512
+import 1 tag 64512:0:1 set 64999:0:1 pref 7
+export 1 tag 64999:0:2
+session Z asn 64513
+import 1 tag 64513:0:2 set 64999:0:4 pref 0
+peer P asn 1001
+import 1 set 64512:0:3 pref 3
+end
+"""
+
+
+def topped(pref: int) -> str:
+    """The configuration of two routers, with this preference."""
+    return TWO_ROUTERS_CONFIG.replace("pref 100", f"pref {pref}")
+
+
+ROWS = [
+    ("the next tags, and preferences above 100", ["renew"], [TWO_ROUTERS, ANY_PATH, TWO_ROUTERS_CONFIG], DONE, RENEWED_CONFIG),
+    ("their evidence", ["renewal"], [TWO_ROUTERS, ANY_PATH, TWO_ROUTERS_CONFIG], DONE, RENEWED_EVIDENCE),
+    ("which passes", ["check"], [TWO_ROUTERS, ANY_PATH, RENEWED_CONFIG, RENEWED_EVIDENCE], DONE, "holds\n"),
+    ("after the next rollout the first tags come back", ["renew"], [TWO_ROUTERS, ANY_PATH, RENEWED_CONFIG], DONE,
+     TWO_ROUTERS_CONFIG.replace("pref 100", "pref 300")),
+    ("where nothing is taken, as is compiled", ["renew"], [TWO_ROUTERS, ANY_PATH, NOTHING], DONE, TWO_ROUTERS_CONFIG),
+    ("and its evidence", ["renewal"], [TWO_ROUTERS, ANY_PATH, NOTHING], DONE, TWO_ROUTERS_EVIDENCE),
+    ("the least tags that are free at each router, after a configuration of another network", ["renew"], [TWO_EXITS, EXITS, SCATTERED], DONE, """\
+propane-config 2
+class 1 0.0.0.0/0 le 32
+router R1 asn 64512 id 10.255.0.1
+session R2 asn 64513
+import 1 tag 64513:0:1 set 64512:0:4 pref 107
+import 1 tag 64513:0:3 set 64512:0:2 pref 108
+export 1 tag 64512:0:2
+export 1 tag 64512:0:4
+peer P1 asn 1001
+import 1 set 64512:0:2 pref 108
+end
+router R2 asn 64513 id 10.255.0.2
+session R1 asn 64512
+import 1 tag 64512:0:2 set 64513:0:3 pref 108
+import 1 tag 64512:0:4 set 64513:0:1 pref 107
+export 1 tag 64513:0:1
+export 1 tag 64513:0:3
+peer P2 asn 1002
+import 1 set 64513:0:1 pref 107
+end
+"""),
+    ("the greatest preference that leaves room", ["renew"], [TWO_ROUTERS, ANY_PATH, topped(4294967195)], DONE,
+     RENEWED_CONFIG.replace("pref 200", "pref 4294967295")),
+    ("one more", ["renew"], [TWO_ROUTERS, ANY_PATH, topped(4294967196)], REFUSED, "propane: refused 10 preferences-run-out pref 4294967196\n"),
+    ("the same of the evidence", ["renewal"], [TWO_ROUTERS, ANY_PATH, topped(4294967295)], REFUSED,
+     "propane: refused 10 preferences-run-out pref 4294967295\n"),
+    ("nothing needs a preference where nothing is originated", ["renew"], [TWO_ROUTERS, "true => any;", topped(4294967295)], DONE, """\
+propane-config 2
+router A asn 64512 id 10.255.0.1
+session B asn 64513
+end
+router B asn 64513 id 10.255.0.2
+session A asn 64512
+end
+"""),
+    ("a policy is refused before preferences run out", ["renew"],
+     [WAYPOINT_RING, "originate 10.0.1.0/24 at D; 10.0.1.0/24 => through(W) >> any;", topped(4294967295)],
+     REFUSED, "propane: refused 6 no-evidence case 1 router W first W X D second W X D\n"),
+    ("a fault of the old configuration comes before a refusal", ["renew"],
+     [WAYPOINT_RING, "originate 10.0.1.0/24 at D; 10.0.1.0/24 => through(W) >> any;", "propane-config 1\n"],
+     BAD_INPUT, "propane: config 1 version\n"),
+    ("and after one of the policy", ["renewal"], [TWO_ROUTERS, "true => any", "propane-config 1\n"],
+     BAD_INPUT, "propane: policy 4 syntax at 1:12\n"),
+    ("a block that isn't closed", ["renewal"], [TWO_ROUTERS, ANY_PATH, "propane-config 2\nrouter A asn 64512 id 10.255.0.1\n"],
+     BAD_INPUT, "propane: config 6 unfinished\n"),
+]
