@@ -1,4 +1,5 @@
-//! BGP as it moves: routers that hear, choose and send when they like, peers that say what they like. Laws without code.
+//! BGP as it moves: what routers may ever hold and send, whoever hears, chooses and sends when, and that it is allowed; which machines stay
+//! within that; and the machine in which to hear, to choose and to send are moves of their own; no code.
 //!
 //! What routers may ever hold needs no machine. `MayHold` of `specs/Ever` is the least set of routes that has each origin's own and is
 //! closed under what lines make of anything that a peer may say, and of whatever another router may hold. Every proof about it is an
@@ -12,7 +13,11 @@
 //! once everything was sent and then heard.
 //!
 //! That a route which may be held runs in the graph of its prefix's case is shown with the lemmas of `event_law` (`proofs/Ever`); that
-//! what stands behind it is of no account, with those of `outcome_law`. No law here knows how an outcome comes about.
+//! what stands behind it is of no account, with those of `outcome_law`.
+//!
+//! Compiling doesn't need it.
+//!
+//! It knows nothing of the compiler, and of how an outcome comes about.
 #![tactic(auto)]
 
 ghost use Rattle.motion_law.specs.Events.{EventsStayWithin};

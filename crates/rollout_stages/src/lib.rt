@@ -1,4 +1,5 @@
-//! What the stages between two configurations say, and what holds on the way from one to the other: laws without code.
+//! The laws of the way between two configurations: nothing is held or heard on it that neither policy allows; what the stages between them
+//! say, and that loads of the first and the last change nothing; no code.
 //!
 //! A rollout has four configurations: the old one; stage 1, which has the lines of both and the starts of the old one; stage 2,
 //! which has the lines of both and the starts of the new one; and the new one. Routers load stage 1, then stage 2, then the new
@@ -17,7 +18,11 @@
 //! the same of a prefix, their tags needn't be apart for it (`proofs/Alike`): then only who originates may differ, and an origin
 //! by one policy alone has no tag that anybody reads.
 //!
-//! Nothing here knows how parts are made, and none of it asks anything of preferences, or of rest.
+//! Nothing is asked of preferences, or of rest.
+//!
+//! Compiling doesn't need it.
+//!
+//! It knows nothing of the compiler, and of how a stage is made.
 #![tactic(auto)]
 
 ghost use Rattle.rollout_stages.specs.Laws.{FirstLoadsChangeNothing, LastLoadsChangeNothing, RolloutsAreSafe, RolloutsHaveStages, StagesReadAsStarts, StagesSayNoMore};
