@@ -8,9 +8,8 @@
 //! prefix's case (`specs/Waiting`, `held_and_waiting_routes_run`). So at every moment what is held and heard is allowed
 //! (`every_moment_is_right`), and where no message waits the routes are settled for what is down (`quiet_worlds_are_settled`).
 //!
-//! The first half names no configuration, so that it holds of speakers whose configurations change, too. The second needs graphs, since
-//! what is on its way may be out of date: that it runs in the graph is kept by each hearing and each sending, where being the best route
-//! isn't.
+//! The first half names no configuration, so that it can be used where configurations change, too. The second needs graphs, since what is
+//! on its way may be out of date: that it runs in the graph is kept by each hearing and each sending, where being the best route isn't.
 //!
 //! Compiling doesn't need it.
 //!

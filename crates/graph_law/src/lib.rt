@@ -10,8 +10,8 @@
 //! - `claimed_routers_are_ranked`: the routers that a policy claims are read off the graph, as those at which a node has a rank. So nobody
 //!   searches for permitted walks to tell who is claimed.
 //!
-//! They speak of any graph that is built of a case (`IsBuilt`), whoever built it. So they hold of the graph that a compiler makes and of
-//! the one that a judge of evidence makes anew, and the graph that evidence brings is compared with that.
+//! They speak of any graph that is built of a case (`IsBuilt`) or faithful to it, whoever made it. So they hold of the graph that a
+//! compiler makes and of the one that a judge of evidence makes anew, and the graph that evidence brings is compared with that.
 //!
 //! It knows nothing of any crate that compiles.
 #![tactic(auto)]

@@ -14,9 +14,9 @@
 //! nodes takes no more turns than it has nodes, each over few of them, where plain rounds would each go over all.
 //!
 //! Of the splitting it is proved only that joined nodes don't come apart: they step alike, and so are on one side of each split. Then whole
-//! rounds over all nodes show that all others have come apart, and go on where one splits something after all. So the result needs no proof
-//! that the list of what waits misses nothing. Only the time depends on that: a `split_classes` that splits nothing would be proved too,
-//! and be slow.
+//! rounds over all nodes show that all others have come apart. Where a round splits something after all, rounds go on until one doesn't. So
+//! the result needs no proof that the list of what waits misses nothing. Only the time depends on that: a `split_classes` that splits
+//! nothing would be proved too, and be slow.
 //!
 //! It knows nothing of policies.
 #![tactic(auto)]

@@ -1,9 +1,9 @@
-//! What holds of outcomes beyond the claim: where packets go while an outcome lasts, also where prefixes overlap, and what it comes to that
+//! What holds of outcomes beyond the claim: where packets go while an outcome lasts, also where prefixes overlap, and what follows where
 //! peers announce what they like; no code.
 //!
 //! *Packets* go hop by hop along the paths of the routes, over what lives, to a live origin, and come to no place twice
-//! (`packets_follow_paths`, `packets_arrive`). Where prefixes overlap a packet goes by the longest that a router has, which may be another
-//! one at the next router; `specs/Longest` says so.
+//! (`packets_follow_paths`, `packets_arrive`). Where prefixes overlap, each router sends a packet by the longest one for which it holds a
+//! route (`specs/Longest`), which may be another one at the next router.
 //!
 //! *Peers may announce anything*: an outcome under announcements (`outcome_base/specs/Announcements`) is, as far as its paths lead within
 //! the network, a plain one in which more sessions are silent (`proofs/Inside`). No router's number stands behind a route, so loops are

@@ -4,7 +4,7 @@
 //! An expression (`Expr`) holds lists of locations. It is made of sets of locations by sequence, alternation, intersection, complement and
 //! repetition. Its derivative by a location holds what may follow that location in it (`specs/Derivative`), as Brzozowski has it. So a path
 //! is read one location at a time, and an expression that is reversed first is read from the origin end, as a route travels. In normal form
-//! members are flattened, in order and not repeated (`specs/Normal`), so that what is alike is mostly the same expression.
+//! members are flattened, in order and not repeated (`specs/Normal`). Without that derivatives would grow with each location that is read.
 //!
 //! A ranked expression (`RankedExpr`) is the expressions of its alternatives, the best one first, at most 64. They share their parts
 //! (`Parts`): a part is an expression of its own, or names earlier parts by their numbers. So the `and` of two ranked expressions adds one

@@ -10,8 +10,8 @@
 //! node mostly has a greater number than those from which it was entered. The order costs or saves time alone: the rows are right in any
 //! order. A search for each node without the sweep would go over all steps as many times as there are nodes.
 //!
-//! `Reach` keeps for each node those from which it can be reached, the row that is asked for when one pair is asked about. Who reads what
-//! can be reached from a node makes rows of that kind, by `rows_along` forward.
+//! `Reach` keeps for each node those from which it can be reached, the row that is asked for when one pair is asked about. Whoever reads
+//! what can be reached from a node makes those rows instead, by `rows_along` forward.
 //!
 //! It knows nothing of policies.
 #![tactic(auto)]

@@ -5,7 +5,7 @@
 //! behind it. The rules for numbers, said of two nodes and of what stands above what, are those of a relation that is closed (`IsClosed`).
 //! Of all closed relations one is the greatest. It is what is left of all pairs when rounds take no more away
 //! (`rounds_end_at_the_greatest`). `gone_after` tells in which round a pair goes, from the graph, from what can be reached and from what is
-//! claimed. What a relation promises names no rounds.
+//! claimed. So what is promised of a relation names no rounds.
 //!
 //! Where the greatest relation is total, of each two nodes at a location one is above the other. Nodes that are above each other are a
 //! class. A node's number is 100 and one for each class that stands strictly lower, and these numbers meet the rules. Where the relation

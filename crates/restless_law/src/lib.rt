@@ -8,8 +8,7 @@
 //! - `proofs/Equal`: three routers, each linked with the others, one of which is the origin. Where all paths are alike and ties go to the
 //!   lowest identifier, the other two hold each other's route, then their own, and so on. The origin has the highest identifier.
 //!
-//! So neither premise can be left out there (`premises_are_needed`). So of routers that ignore the length of AS paths rest isn't
-//! promised.
+//! So neither premise can be left out there (`premises_are_needed`). Of routers that ignore the length of AS paths rest isn't promised.
 //!
 //! Compiling doesn't need it.
 //!

@@ -10,8 +10,8 @@
 //! That these are the routes of the lines is proved, by the way from the graph to the configuration (`settled_law`). So no configuration
 //! need be made.
 //!
-//! `settle_left` is for who has looked up already what fails: a scenario's lists may name one link many times, and the look-up goes over
-//! them once.
+//! `settle_left` is for callers that have looked up already what fails: a scenario's lists may name one link many times, and the look-up
+//! goes over them once.
 //!
 //! `replay`, `drain`, `whatif`, `multipath` and `promises` alone need it.
 //!
