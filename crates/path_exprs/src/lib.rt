@@ -11,9 +11,9 @@
 //! part for each pair of alternatives and copies nothing. Copies would cost the length of both expressions for each pair.
 //!
 //! `specs/Forward` says which expression a call is, and `specs/Standings` where the walks of a case can stand: a location, with what is
-//! left of each alternative after a walk that led there. What is said here of calls and cases needs no compiler, so evidence can be judged
-//! without one. Expressions are ordered, compared and hashed by what they are made of. The order serves normal forms; who has numbers for
-//! expressions needn't ask it.
+//! left of each alternative after a walk that led there. `limits::NODES` is the most of these that a case may have. What is said here of
+//! calls and cases needs no compiler, so evidence can be judged without one. Expressions are ordered, compared and hashed by what they are
+//! made of. The order serves normal forms; who has numbers for expressions needn't ask it.
 //!
 //! It knows nothing of graphs.
 #![tactic(auto)]

@@ -14,13 +14,13 @@
 //!
 //! The rules are asked at every location, peers and origins among them, so that none of them asks what a location is. A step answers a step
 //! only of its kind: one to a node that hears answers one to a node that hears, and the others answer each other. Otherwise a graph with
-//! marks of both kinds at one location could have a total relation and no numbers. To have no rank is worst.
+//! marks of both kinds at one location could have a total relation and no numbers. To have no rank is worst. The claimed routers are a set.
 //!
 //! A *refutation* is two nodes at one location and lines of pairs that went, so that neither of the two may be above the other. Each line's
 //! reason rests on earlier lines (`specs/Reasons`). Refutations exist exactly where the relation isn't total
 //! (`refutations_exist_where_not_total`), and of all of them one is chosen (`specs/Choosing`), so that there is one answer.
 //!
-//! It knows nothing of policies: the claimed routers are a set.
+//! It knows nothing of policies.
 #![tactic(auto)]
 
 mod refutations;

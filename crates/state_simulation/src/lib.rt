@@ -1,9 +1,10 @@
 //! Which of two nodes at one location of a graph may stand at least as high as the other: the greatest relation that keeps the rules, or
 //! the first round of the search where some two nodes have no direction.
 //!
-//! A relation is made for any graph. Where no two nodes stand at one location, each is above itself alone, and no rounds are made. Else all
-//! pairs of one location begin in, and rounds take away those against which a rule is, up to one that takes nothing (`relation`). A round
-//! reads what was left before it and writes beside it, so rounds are exact: the law tells which pair goes in which round.
+//! A relation is made for any graph. Where no two nodes stand at one location, each is above itself alone, and no rounds are made. Else
+//! every pair of one location stands at first, and each round takes away the pairs against which a rule speaks, until a round takes nothing
+//! (`relation`). A round reads what was left before it and writes beside it, so rounds are exact: the law tells which pair goes in which
+//! round.
 //!
 //! Pairs are bits, in a row for each node. What fails at a step rests on what has gone below its target alone. So a round makes one mask
 //! for each target whose row the last round changed, and keeps of the row of each node that steps there what the mask has. To go over the

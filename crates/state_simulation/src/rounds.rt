@@ -26,7 +26,7 @@ pub struct Rounds {
     /// A row for each node, with a bit for each node at its location that is left above it.
     pub left: Rows,
     next: Rows,
-    /// For each node whether the last round took something from its row.
+    /// For each node whether the last round took something from its row; true for each before the first round.
     pub touched: Vec<bool>,
     /// A row for each node, with a bit for each node that can be reached from it, once that was asked for.
     pub onwards: Option<Rows>,
