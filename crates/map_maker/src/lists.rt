@@ -130,9 +130,9 @@ fn push_list(
 /// Lists, and how many lines a text with them has.
 #[derive(Drop)]
 pub struct Listed {
-    /// The list of each class.
+    /// The list of each class, of use only where there aren't too many lines.
     pub lists: List<List<ListLine>>,
-    /// At most 18446744073709551615.
+    /// How many lines a text with them has, at most 18446744073709551615.
     pub total: u64,
 }
 

@@ -23,7 +23,7 @@ use std::alloc::{AllocError, Global};
 /// statement ranks their paths; without it nothing is claimed.
 #[derive(Drop)]
 pub struct Claims<'a> {
-    /// The statement that governs the prefix.
+    /// The statement that governs the prefix, where the prefix has a case.
     pub statement: Option<&'a Statement>,
     /// The routers that are claimed.
     pub routers: LocSet,
