@@ -2,8 +2,8 @@
 //!
 //! `specs/Grammar` states the grammar, a type a rule, `specs/Fronts` says with which tokens a policy may begin, and
 //! `specs/Spans` where the tokens of a text stand. Each function below is the proof of the law in its contract: that the
-//! functions of `policy_tokens` and `policy_grammar`, by which texts are read, read just that. The grammar is stated twice
-//! for that reason, and a reader need believe only this statement.
+//! functions of `policy_tokens` and `policy_grammar`, by which texts are read, read just that. So the grammar is stated
+//! twice, there as functions that read and here by itself, and a reader need believe only this statement.
 //!
 //! | Law | It says |
 //! |---|---|

@@ -6,11 +6,11 @@
 //! differ over routers and peers together, and links ascend with the lesser end first. `specs/Network` has these rules
 //! (`IsNet`), `specs/NameRule` what a name is.
 //!
-//! Types that keep rules (`Net`, `Prefix`, `Pattern`, `Name`) have private fields, and one function that makes a value and
-//! requires the rule. Contracts see such a value as a plain record (`PlainNet`, `PlainPrefix`, `PlainPattern`). So
-//! definitions range over plain records and take the rule as a premise where they need it, and a contract can name a value
-//! without a proof inside it. `known_net` and `known_prefix` give a proof what each value keeps. `List<T>` is a vector that
-//! contracts see as its items, so that public structs read in clauses as plain records.
+//! Types that keep rules (`Net`, `Prefix`, `Pattern`, `Name`) have private fields, and one function that makes a value: it
+//! requires the rule or checks it. Contracts see such a value as a plain record (`PlainNet`, `PlainPrefix`,
+//! `PlainPattern`). So definitions range over plain records and take the rule as a premise where they need it, and a
+//! contract can name a value without a proof inside it. `known_net` and `known_prefix` give a proof what each value keeps.
+//! `List<T>` is a vector that contracts see as its items, so that public structs read in clauses as plain records.
 //!
 //! A set of locations (`LocSet`) is twelve words, a bit for each of the 768 locations that a network can have. It is copied
 //! and takes no memory. Its operations are said by membership, `holds`. Where a contract needs the set itself, the
