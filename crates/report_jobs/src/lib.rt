@@ -19,7 +19,8 @@
 //!
 //! `replay` breaks ties by the full order, since a report of one of several outcomes would be a guess. What is promised is
 //! that no other outcome is stable with ties broken so. The claim on what is compiled speaks of all stable outcomes, so it
-//! covers the one that is reported. No sentence about a report has evidence in it.
+//! covers the one that is reported. No sentence about a report has evidence in it: that there is one follows from the laws of
+//! `settled_law`.
 //!
 //! Which of them make a configuration is a matter of time. `trace`, `settle` and `waiting` speak the lines at each message,
 //! and `multipath` and `whatif` ask what the lines give over links, so they make it. `replay`, `drain`, `impact` and
