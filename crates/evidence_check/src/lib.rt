@@ -9,8 +9,9 @@
 //!
 //! A configuration is judged by its text. The one that is made of the evidence is made and printed, and both texts are
 //! compared byte by byte, since a configuration has one text. So a text that is right is never read (`check_text`). Where
-//! they differ, the line is told at which they do first, from 1, and the router in whose block that line is in the text that
-//! is made, or 0. `check` has a configuration as a value; it prints it and asks the same, so there is one way to compare.
+//! they differ, the line is told at which they do first, from 1, or the one after the shorter text; and the router in whose
+//! block that line is in the text that is made, or 0. `check` has a configuration as a value; it prints it and asks the same,
+//! so there is one way to compare.
 //!
 //! `check` and `audit` alone need it.
 //!

@@ -1,5 +1,5 @@
 //! What a policy promises for each of its cases while nothing has failed, and its text: where the sources can be, the rank of
-//! each, who isn't claimed, and who only carries. For `promises` alone.
+//! each, who isn't claimed, and who only carries.
 //!
 //! What is promised is said without a graph (`specs/Claims`, `specs/Promises`), and found in the graph of the case: its tops
 //! show it (`tops_tell_promises`). It is kept for every prefix of the case (`promises_are_kept`), and every claimed source

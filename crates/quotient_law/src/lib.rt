@@ -2,8 +2,8 @@
 //!
 //! Faithful graphs of one case follow each other step by step (`faithful_graphs_are_alike`), so numbers exist on one exactly
 //! where they exist on every other (`numbers_carry_over`). So a refusal for want of numbers speaks of every such graph, and
-//! evidence over one graph is evidence over another (`evidence_carries_over`). For this reason numbers may be sought on the
-//! smallest graph: nothing that a policy is told depends on it.
+//! evidence over one graph is evidence over another (`evidence_carries_over`). So numbers may be sought on the smallest of
+//! them, and no policy changes its verdict by it.
 //!
 //! The quotient joins nodes of one location that no path onward tells apart: every list of locations can be followed from
 //! both or from neither, and ends in equal ranks. It is faithful again (`quotients_are_faithful`). Any two of its nodes at a

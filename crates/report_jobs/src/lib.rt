@@ -13,8 +13,8 @@
 //! | `impact`, `promises` | none | `impact_report`, `promises_report` | the same |
 //!
 //! A command here is an `Answer` of `compile_jobs`: that crate reads the texts, compiles, and reports faults and refusals in one way; what is
-//! left is to say what the command writes of a network, a policy, the third text and what was compiled. They are one crate since they differ
-//! in nothing else, and a new one is some thirty lines. `specs/` has for each what its text says (`Writes..`), and `SaysOfTexts`, which
+//! left is to say what the command writes of a network, a policy, the third text and what was compiled. They are one crate since they differ in
+//! nothing else, and a new one is some thirty lines. `specs/` has for each what its text says (`Writes..`), and `SaysOfTexts`, which
 //! `propane_run` cites.
 //!
 //! `replay` breaks ties by the full order, since a report of one of several outcomes would be a guess. What is promised is

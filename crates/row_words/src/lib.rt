@@ -10,8 +10,8 @@
 //! have none in common the place is claimed by one policy alone, or by both for walks of their own, and then the best row of either side
 //! shows enough.
 //!
-//! The rows that show a difference keep their order. So the
-//! work is that of comparing rows two and two; there are at most 65 times 65 of them at a place, and mostly fewer than ten.
+//! The rows that show a difference keep their order. So the work is that of comparing rows two and two; there are at most 65 times 65 of them
+//! at a place, and mostly fewer than ten.
 //!
 //! A reader begins with `words_of` and `shown_rows`. That there are no words exactly where the rows agree is
 //! `no_words_where_rows_agree`.
