@@ -12,16 +12,7 @@ use Rattle.config_maker.specs.declared.hop.Hop.{Hop}
 use Rattle.config_maker.specs.declared.hop.Announced.{Announced}
 use Rattle.config_maker.specs.Hops.{hop_of, hops_from, announced_by, announced_from}
 
--- a step of a graph is between nodes
-abbrev IsBetween : PlainGraph → ℕ × ℕ → Type 0
-IsBetween g s = (s.0 < length g.nodes) × (s.1 < length g.nodes)
-
-pub step_ends : (g : PlainGraph) (steps : List (ℕ × ℕ)) (i : ℕ) → IsGraph g → steps ≡ g.steps → i < length steps
-    → ((get_or steps i (0, 0)).0 < length g.nodes) × ((get_or steps i (0, 0)).1 < length g.nodes)
-step_ends g steps i is same within =
-    AllByRecursion_at (IsBetween g) steps i (get_or steps i (0, 0)) (subst (AllByRecursion (IsBetween g)) (sym same) is.steps) (slice_get-get_or steps i (0, 0) within)
-
--- and a start is a node
+-- a start is a node
 pub start_node : (g : PlainGraph) (starts : List ℕ) (i : ℕ) → IsGraph g → starts ≡ g.starts → i < length starts → get_or starts i 0 < length g.nodes
 start_node g starts i is same within =
     AllByRecursion_at (λ n. n < length g.nodes) starts i (get_or starts i 0) (subst (AllByRecursion (λ n. n < length g.nodes)) (sym same) is.starts) (slice_get-get_or starts i 0 within)

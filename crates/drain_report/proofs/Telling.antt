@@ -20,7 +20,7 @@ use Rattle.outcome_base.specs.Outcomes.{Failures, Outcome, is_dead, is_dead_link
 use Rattle.settled_law.specs.Settled.{IsFullyStable}
 use Rattle.scenarios.specs.Surviving.{live_by}
 use Rattle.scenarios.specs.declared.survivors.Survivors.{Survivors}
-use Rattle.outcome_report.specs.Offers.{offered_by}
+use Rattle.outcome_claims.specs.Offers.{offered_by}
 use Rattle.impact_law.specs.Cuts.{live_cuts}
 use Rattle.impact_law.specs.declared.impact.Cut.{Cut}
 use Rattle.impact_law.specs.declared.impact.Cut.TheVariants.{Link, Router}

@@ -2,8 +2,8 @@
 use Rattle.std.specs.Prelude.{ℕ, Bool, List, [], ◌∷◌, ◌++◌, Option, Some, None, filter, is_some, map}
 use Rattle.std.specs.List.{flat_map}
 use Rattle.config_base.specs.declared.route.Route.{Route}
-use Rattle.outcome_report.specs.Situations.{offered_in}
-use Rattle.outcome_report.specs.declared.reported.ReportedOutcome.{ReportedOutcome}
+use Rattle.outcome_claims.specs.Offers.{offered_in}
+use Rattle.outcome_claims.specs.declared.reported.ReportedOutcome.{ReportedOutcome}
 
 -- from each place of a path to the next one
 abbrev pub steps_of : List ℕ → List (ℕ × ℕ)

@@ -4,7 +4,7 @@ ghost use Rattle.std.specs.List.{flat_map};
 ghost use Rattle.drain_report.specs.Steps.{held_steps, is_offer, offer_step, steps_in, steps_of};
 
 use net_base::{List, Loc};
-use outcome_report::ReportedOutcome;
+use outcome_claims::ReportedOutcome;
 use scenarios::Outcome;
 use std::alloc::{AllocError, Global};
 

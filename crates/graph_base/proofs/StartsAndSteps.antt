@@ -1,9 +1,11 @@
 -- Starts and steps of a graph: where they stand in its lists, to which nodes they lead, and how they are found by locations.
-use Rattle.std.proofs.Common.{◌≡◌, ℕ, ◌<◌, true, length, Some, refl, sym, ap, ◌∙◌, subst}
+use Rattle.std.proofs.Common.{◌≡◌, ℕ, ◌<◌, List, true, get_or, length, Some, refl, sym, ap, ◌∙◌, subst}
 use Rattle.std.specs.Prelude.{◌&&◌, ◌==◌}
-use Rattle.std.specs.List.{find}
+use Rattle.std.specs.List.{AllByRecursion, find}
 use Rattle.std.proofs.lemmas.Bool.{and_parts, and_from, eqb-true, eq-eqb}
+use Rattle.std.proofs.lemmas.Option.{slice_get-get_or}
 use Rattle.list_law.specs.Members.{IsIn}
+use Rattle.list_law.proofs.Each.{AllByRecursion_at}
 use Rattle.list_law.proofs.Members.{AllByRecursion-IsIn, list_any-from_IsIn, list_any_member}
 use Rattle.list_law.proofs.Options.{option_map_parts}
 use Rattle.list_law.proofs.Tests.{find_parts}
@@ -36,6 +38,15 @@ in_step g n m at = list_any-from_IsIn (λ (s : ℕ × ℕ). s.0 == n && s.1 == m
 
 pub start_node : (g : PlainGraph) (n : ℕ) → IsGraph g → is_start g n ≡ true → n < length g.nodes
 start_node g n rules h = AllByRecursion-IsIn (λ k. k < length g.nodes) g.starts n rules.starts (start_in g n h)
+
+-- a step of a graph is between nodes, by its place
+abbrev IsBetween : PlainGraph → ℕ × ℕ → Type 0
+IsBetween g s = (s.0 < length g.nodes) × (s.1 < length g.nodes)
+
+pub step_ends : (g : PlainGraph) (steps : List (ℕ × ℕ)) (i : ℕ) → IsGraph g → steps ≡ g.steps → i < length steps
+    → ((get_or steps i (0, 0)).0 < length g.nodes) × ((get_or steps i (0, 0)).1 < length g.nodes)
+step_ends g steps i is same within =
+    AllByRecursion_at (IsBetween g) steps i (get_or steps i (0, 0)) (subst (AllByRecursion (IsBetween g)) (sym same) is.steps) (slice_get-get_or steps i (0, 0) within)
 
 pub step_nodes : (g : PlainGraph) (m n : ℕ) → IsGraph g → has_step g m n ≡ true → (m < length g.nodes) × (n < length g.nodes)
 step_nodes g m n rules h = AllByRecursion-IsIn (λ (s : ℕ × ℕ). (s.0 < length g.nodes) × (s.1 < length g.nodes)) g.steps (m, n) rules.steps (step_in g m n h)

@@ -12,8 +12,7 @@ use Rattle.net_base.proofs.NumbersBelow.{In-numbers_below}
 use Rattle.policy_base.specs.Governing.{statement_of}
 use Rattle.policy_base.specs.Permitted.{IsClaimedRouter, IsClaimedSession}
 use Rattle.policy_base.specs.Policies.{PlainPolicy, PlainStatement}
-use Rattle.outcome_report.specs.Claims.{AreClaimed}
-use Rattle.outcome_report.specs.Lines.{Sources}
+use Rattle.outcome_claims.specs.Claims.{AreClaimed, Sources}
 use Rattle.impact_law.specs.Impacts.{IsSource, Precedes}
 use Rattle.impact_report.specs.declared.sources.Source.{Source}
 use Rattle.impact_report.specs.Sources.{AreSources, router_source, router_sources, session_source, sources_in}

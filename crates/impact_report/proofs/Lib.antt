@@ -1,16 +1,7 @@
-mod Besides
-mod Opening
-mod Living
 mod Ordering
 mod Claiming
-mod Telling
-mod Following
 mod Changing
 mod Ranking
 mod Rowing
 mod Whole
-mod Visits
-mod Visiting
-mod Reaching
-mod Choosing
 mod ImpactTelling

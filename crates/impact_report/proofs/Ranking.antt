@@ -21,12 +21,12 @@ use Rattle.impact_law.specs.declared.impact.Cut.{Cut}
 use Rattle.impact_law.specs.declared.impact.SourceRank.{SourceRank}
 use Rattle.impact_law.proofs.OneImpact.{rankings_are_one}
 use Rattle.impact_report.specs.declared.sources.Source.{Source}
-use Rattle.impact_report.specs.Paths.{rank_under}
-use Rattle.impact_report.specs.Left.{IsOpened}
+use Rattle.cut_ranks.specs.Paths.{rank_under}
+use Rattle.cut_ranks.specs.Left.{IsOpened}
 use Rattle.impact_report.specs.Rows.{IsBase, IsChange}
 use Rattle.impact_report.specs.Sources.{AreSources, reranked, with_rank}
-use Rattle.impact_report.proofs.Besides.{cut_besides}
-use Rattle.impact_report.proofs.Telling.{ranks_told}
+use Rattle.cut_ranks.proofs.Besides.{cut_besides}
+use Rattle.cut_ranks.proofs.Telling.{ranks_told}
 
 abbrev pub source_in : SourceRank → Source
 source_in x = record { router = x.router; peer = x.peer }

@@ -13,8 +13,7 @@ use Rattle.config_base.specs.Lines.{class_of}
 use Rattle.evidence_base.specs.Made.{PlainCaseEvidence, case_at}
 use Rattle.outcome_base.specs.Outcomes.{Failures, no_failures}
 use Rattle.evidence_law.specs.Passes.{IsCaseGraph, Passes}
-use Rattle.outcome_report.specs.Claims.{AreClaimed}
-use Rattle.outcome_report.specs.Lines.{Sources}
+use Rattle.outcome_claims.specs.Claims.{AreClaimed, Sources}
 use Rattle.settled_law.proofs.SettledLaw.{case_or_bare}
 use Rattle.scenarios.specs.Surviving.{AreSurvivors}
 use Rattle.scenarios.specs.declared.survivors.Survivors.{Survivors}
@@ -29,14 +28,14 @@ use Rattle.impact_law.proofs.BestRanks.{nothing_is_claimed, tops_tell_best_ranks
 use Rattle.impact_law.proofs.Existing.{tops_exist as case_tops}
 use Rattle.impact_report.specs.declared.sources.Source.{Source}
 use Rattle.impact_report.specs.Found.{IsFound}
-use Rattle.impact_report.specs.Left.{IsOpened}
-use Rattle.impact_report.specs.Paths.{StepsDiffer, rank_under}
+use Rattle.cut_ranks.specs.Left.{IsOpened}
+use Rattle.cut_ranks.specs.Paths.{StepsDiffer, rank_under}
 use Rattle.impact_report.specs.Rows.{IsBase}
 use Rattle.impact_report.specs.Sources.{reranked, sources_in, with_rank}
-use Rattle.impact_report.proofs.Besides.{none_besides}
+use Rattle.cut_ranks.proofs.Besides.{none_besides}
 use Rattle.impact_report.proofs.Claiming.{are_sources}
 use Rattle.impact_report.proofs.Ranking.{ranking, reranking}
-use Rattle.impact_report.proofs.Telling.{ranks_told}
+use Rattle.cut_ranks.proofs.Telling.{ranks_told}
 
 -- an impact by a statement that governs
 governed_impact : (net : PlainNet) (policy : PlainPolicy) (f : Failures) (p : PlainPrefix) (s : PlainStatement) (impact : Impact) → statement_of policy p ≡ Some s

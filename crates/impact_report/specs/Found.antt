@@ -11,7 +11,7 @@ use Rattle.impact_law.specs.BestRanks.{AreTops, rank_by}
 use Rattle.impact_law.specs.declared.impact.Cut.{Cut}
 use Rattle.impact_law.specs.declared.impact.Impact.{Impact}
 use Rattle.impact_report.specs.declared.sources.Source.{Source}
-use Rattle.impact_report.specs.Left.{IsOpened}
+use Rattle.cut_ranks.specs.Left.{IsOpened}
 use Rattle.impact_report.specs.Rows.{AreRows}
 use Rattle.impact_report.specs.Sources.{with_rank}
 

@@ -13,7 +13,7 @@ use Rattle.impact_law.specs.Impacts.{IsRanking, changed, row_of}
 use Rattle.impact_law.specs.declared.impact.Cut.{Cut}
 use Rattle.impact_law.specs.declared.impact.CutRow.{CutRow}
 use Rattle.impact_law.specs.declared.impact.SourceRank.{SourceRank}
-use Rattle.impact_report.specs.Left.{IsOpened}
+use Rattle.cut_ranks.specs.Left.{IsOpened}
 
 -- the case is that of the prefix, this is what failures leave of its graph, and its sources with their best ranks are the base
 pub record IsBase (net : PlainNet) (policy : PlainPolicy) (f : Failures) (p : PlainPrefix) (s : PlainStatement) (c : PlainCaseEvidence) (opened : PlainGraph) (base : List SourceRank) : Type 0 where

@@ -5,7 +5,7 @@ use Rattle.net_base.specs.Locations.{numbers_below}
 use Rattle.net_base.specs.Network.{PlainNet}
 use Rattle.net_base.specs.Prefixes.{PlainPrefix}
 use Rattle.policy_base.specs.Policies.{PlainPolicy, PlainStatement}
-use Rattle.outcome_report.specs.Lines.{Sources}
+use Rattle.outcome_claims.specs.Claims.{Sources}
 use Rattle.impact_law.specs.Impacts.{IsSource, Precedes}
 use Rattle.impact_law.specs.declared.impact.SourceRank.{SourceRank}
 use Rattle.impact_report.specs.declared.sources.Source.{Source}

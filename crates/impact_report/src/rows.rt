@@ -3,14 +3,12 @@ ghost use Rattle.std.specs.Prelude.{◌≡◌};
 ghost use Rattle.impact_law.specs.Cuts.{with_cut};
 ghost use Rattle.impact_law.specs.Impacts.{changed};
 ghost use Rattle.outcome_base.specs.Outcomes.{no_failures};
-ghost use Rattle.impact_report.specs.Tops.{AreNodes, entry_at};
-ghost use Rattle.impact_report.specs.Paths.{ArePaths};
+ghost use Rattle.cut_ranks.specs.Tops.{AreNodes, entry_at};
+ghost use Rattle.cut_ranks.specs.Paths.{ArePaths};
 ghost use Rattle.impact_report.specs.Rows.{AreRows, IsChange};
 ghost use Rattle.impact_report.specs.Sources.{reranked};
 
-use crate::cut_tops;
-use crate::paths::{Paths, leaves};
-use crate::ranks::rank_told;
+use cut_ranks::{Paths, cut_tops, leaves, rank_told};
 use impact_law::{Cut, CutRow, SourceRank};
 use net_base::{List, Net};
 use std::alloc::{AllocError, Global};
@@ -28,7 +26,7 @@ pub struct Base<'a> {
 
 impl Base<'_> {
     ghost use Rattle.std.specs.Prelude.{◌≡◌, IfOk, map};
-    ghost use Rattle.impact_report.specs.Paths.{rank_under};
+    ghost use Rattle.cut_ranks.specs.Paths.{rank_under};
 
     // The rank of a source under a cut that leaves these tops.
     fn rank_after(&self, cut: &Cut, tops: &[Option<u32>], entry: &SourceRank) -> Option<u32>

@@ -1,11 +1,11 @@
 //! The claimed sources of a prefix, in order.
 ghost use Rattle.std.specs.Prelude.{◌≡◌, ◌++◌, IfOk, OnOk, map};
 ghost use Rattle.net_base.specs.Sets.{holds};
-ghost use Rattle.outcome_report.specs.Claims.{sources_of as claimed_in};
+ghost use Rattle.outcome_claims.specs.Claims.{sources_of as claimed_in};
 ghost use Rattle.impact_report.specs.Sources.{router_sources, session_source, sources_in};
 
 use net_base::{Loc, LocSet, Net};
-use outcome_report::Claims;
+use outcome_claims::Claims;
 use std::alloc::{AllocError, Global};
 
 /// A claimed router, or its session to a peer.

@@ -13,11 +13,11 @@ use Rattle.policy_base.specs.Governing.{statement_of}
 use Rattle.policy_base.specs.Policies.{PlainPolicy, PlainStatement}
 use Rattle.config_base.specs.Configs.{PlainConfig}
 use Rattle.outcome_base.specs.Outcomes.{Failures, Outcome}
-use Rattle.outcome_report.specs.Claims.{AreClaimed, AreClaims, AreNone, sources_of, statement_in}
-use Rattle.outcome_report.specs.declared.claims.Claims.{Claims}
-use Rattle.outcome_report.specs.Lines.{Shown, Sources, head_lines}
+use Rattle.outcome_claims.specs.Claims.{AreClaimed, AreClaims, AreNone, Sources, sources_of, statement_in}
+use Rattle.outcome_claims.specs.declared.claims.Claims.{Claims}
+use Rattle.outcome_report.specs.Lines.{Shown, head_lines}
 use Rattle.outcome_report.specs.Report.{shown_of}
-use Rattle.outcome_report.proofs.Ascending.{one_ascent}
+use Rattle.outcome_claims.proofs.Ascending.{one_ascent}
 use Rattle.multipath_law.specs.Carried.{IsMultipath, live_links}
 use Rattle.multipath_law.specs.declared.multipath.Multipath.{Multipath}
 use Rattle.multipath_report.specs.Texts.{IsMultipathText, count_line, idle_line, lines_by, router_line, sends_text, session_line}

@@ -10,8 +10,8 @@ use Rattle.policy_base.specs.Governing.{is_origin, statement_of}
 use Rattle.policy_base.specs.Policies.{PlainPolicy, PlainStatement}
 use Rattle.config_base.specs.Configs.{PlainConfig}
 use Rattle.outcome_base.specs.Outcomes.{Failures, Outcome}
-use Rattle.outcome_report.specs.Claims.{AreClaimed}
-use Rattle.outcome_report.specs.Lines.{Shown, Sources, head_lines, next_name, rank_by}
+use Rattle.outcome_claims.specs.Claims.{AreClaimed, Sources, rank_by}
+use Rattle.outcome_report.specs.Lines.{Shown, head_lines, next_name}
 use Rattle.outcome_report.specs.Report.{shown_of}
 use Rattle.multipath_law.specs.declared.multipath.Multipath.{Multipath}
 

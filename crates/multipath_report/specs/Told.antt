@@ -9,7 +9,7 @@ use Rattle.policy_base.specs.Policies.{PlainStatement, policy_of}
 use Rattle.scenarios.specs.Scenarios.{failures_of}
 use Rattle.scenarios.specs.Situations.{IsSituation}
 use Rattle.scenarios.specs.declared.situation.Situation.{Situation}
-use Rattle.outcome_report.specs.Claims.{sources_of, statement_in}
+use Rattle.outcome_claims.specs.Claims.{sources_of, statement_in}
 use Rattle.outcome_report.specs.Lines.{Shown}
 use Rattle.outcome_report.specs.Report.{shown_of}
 use Rattle.multipath_report.specs.Texts.{router_line, session_line}

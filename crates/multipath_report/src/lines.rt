@@ -5,7 +5,7 @@ ghost use Rattle.net_base.specs.Locations.{numbers_below};
 ghost use Rattle.net_base.specs.Sets.{holds};
 ghost use Rattle.location_names.specs.Neighbours.{is_held};
 ghost use Rattle.policy_base.specs.Policies.{policy_of};
-ghost use Rattle.outcome_report.specs.Claims.{sources_of};
+ghost use Rattle.outcome_claims.specs.Claims.{sources_of};
 ghost use Rattle.multipath_report.specs.Texts.{count_line, idle_line, offer_text, sends_text, state_text};
 ghost use Rattle.multipath_report.specs.Told.{IsTold, net_in, router_line_in, session_line_in, shown_in, statement_for};
 

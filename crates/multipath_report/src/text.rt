@@ -11,7 +11,8 @@ use crate::told::Told;
 use evidence_base::{Evidence, class_of};
 use input_output::NoMemory;
 use multipath_law::Multipath;
-use outcome_report::{claims_of, push_head};
+use outcome_claims::claims_of;
+use outcome_report::push_head;
 use scenarios::Situation;
 use std::alloc::Global;
 

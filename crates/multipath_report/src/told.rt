@@ -1,6 +1,6 @@
 //! What is told.
 use net_base::LocSet;
-use outcome_report::Claims;
+use outcome_claims::Claims;
 use scenarios::Situation;
 
 /// An outcome with what it is of, its multipath sets, and the sources that are claimed for its prefix.

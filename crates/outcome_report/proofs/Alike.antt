@@ -9,8 +9,8 @@ use Rattle.net_base.specs.Prefixes.{PlainPrefix}
 use Rattle.policy_base.specs.Governing.{statement_of}
 use Rattle.policy_base.specs.Policies.{PlainPolicy, PlainStatement}
 use Rattle.config_base.specs.Configs.{PlainConfig}
-use Rattle.outcome_report.specs.Claims.{AreClaimed}
-use Rattle.outcome_report.specs.Lines.{Shown, Sources, head_lines, report_text, router_line, session_line}
+use Rattle.outcome_claims.specs.Claims.{AreClaimed, Sources}
+use Rattle.outcome_report.specs.Lines.{Shown, head_lines, report_text, router_line, session_line}
 use Rattle.outcome_report.specs.Report.{IsReport}
 
 -- they show the same of each router, and of each pair of a router and a peer

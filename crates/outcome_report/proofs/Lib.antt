@@ -1,9 +1,3 @@
 pub mod Alike
-pub mod Ascending
-pub mod Claimed
-pub mod Heard
-pub mod Marking
-pub mod Offering
-pub mod Sessions
 pub mod Situations
 pub mod Texts

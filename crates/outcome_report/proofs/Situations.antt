@@ -12,7 +12,7 @@ use Rattle.outcome_base.specs.Outcomes.{Failures, Outcome}
 use Rattle.outcome_report.specs.Report.{shown_of}
 use Rattle.outcome_report.specs.Situations.{shown_by}
 use Rattle.outcome_report.proofs.Alike.{ShowAlike}
-use Rattle.outcome_report.proofs.Offering.{offers_are}
+use Rattle.outcome_claims.proofs.Offering.{offers_are}
 
 module _ (net : PlainNet) (policy : PlainPolicy) (config : PlainConfig) (cs : List PlainCaseEvidence) (rules : IsNet net)
     (kept : IsPolicyOf net policy) (passes : Passes net policy config cs) (p : PlainPrefix) (prefix : IsPrefix p) (outcome : Outcome) (f : Failures) where

@@ -9,11 +9,11 @@ use Rattle.net_base.specs.Prefixes.{PlainPrefix}
 use Rattle.policy_base.specs.Governing.{statement_of}
 use Rattle.policy_base.specs.Policies.{PlainPolicy, PlainStatement}
 use Rattle.config_base.specs.Configs.{PlainConfig}
-use Rattle.outcome_report.specs.Claims.{AreClaims, AreNone, sources_of, statement_in}
-use Rattle.outcome_report.specs.declared.claims.Claims.{Claims}
-use Rattle.outcome_report.specs.Lines.{Shown, Sources, head_lines, held_text, lines_by, report_text, router_line, session_line}
+use Rattle.outcome_claims.specs.Claims.{AreClaims, AreNone, Sources, sources_of, statement_in}
+use Rattle.outcome_claims.specs.declared.claims.Claims.{Claims}
+use Rattle.outcome_report.specs.Lines.{Shown, head_lines, held_text, lines_by, report_text, router_line, session_line}
 use Rattle.outcome_report.specs.Report.{IsReport}
-use Rattle.outcome_report.proofs.Ascending.{one_ascent}
+use Rattle.outcome_claims.proofs.Ascending.{one_ascent}
 
 module _ (net : PlainNet) (policy : PlainPolicy) (p : PlainPrefix) (shown : Shown) where
   -- a router that isn't claimed has one line, whatever ranks paths

@@ -1,32 +1,23 @@
 -- The lines of a report.
-use Rattle.std.specs.Prelude.{ℕ, Bool, List, ◌++◌, Option, Some, None, codes, length, option_and_then, if◌then◌else◌}
+use Rattle.std.specs.Prelude.{ℕ, Bool, List, ◌++◌, Option, Some, None, codes, length, if◌then◌else◌}
 use Rattle.std.specs.Fmt.{decimal}
 use Rattle.std.specs.List.{flat_map}
 use Rattle.net_base.specs.Locations.{numbers_below}
 use Rattle.net_base.specs.Network.{PlainNet}
 use Rattle.net_base.specs.Prefixes.{PlainPrefix}
 use Rattle.policy_base.specs.Governing.{is_origin, statement_of}
-use Rattle.policy_base.specs.Meaning.{rank_of}
 use Rattle.policy_base.specs.Policies.{PlainPolicy, PlainStatement}
 use Rattle.config_base.specs.Configs.{PlainConfig}
 use Rattle.config_base.specs.Lines.{class_of}
 use Rattle.net_base.specs.Network.{name_of}
 use Rattle.text_parts.specs.Texts.{prefix_text}
+use Rattle.outcome_claims.specs.Claims.{Sources, rank_by}
 
 -- what a report shows: who is dead, along which path a router sends, and which path a peer is offered over the session of a router
 pub record Shown : Type 0 where
   pub dead : ℕ → Bool
   pub path : ℕ → Option (List ℕ)
   pub offer : ℕ → ℕ → Option (List ℕ)
-
--- routers, and sessions of a router and a peer
-pub record Sources : Type 0 where
-  pub routers : ℕ → Bool
-  pub sessions : List (ℕ × ℕ)
-
--- the rank that a statement gives a path, if it is there and gives one
-abbrev pub rank_by : PlainNet → Option PlainStatement → List ℕ → Option ℕ
-rank_by net s path = option_and_then (λ (t : PlainStatement). rank_of net t.ranked path) s
 
 -- ---- parts of a line
 

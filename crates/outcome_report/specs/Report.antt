@@ -6,8 +6,8 @@ use Rattle.policy_base.specs.Policies.{PlainPolicy}
 use Rattle.config_base.specs.Configs.{PlainConfig}
 use Rattle.config_base.specs.declared.route.Route.{Route}
 use Rattle.outcome_base.specs.Outcomes.{Failures, Outcome, is_dead, offered, route_at}
-use Rattle.outcome_report.specs.Claims.{AreClaimed}
-use Rattle.outcome_report.specs.Lines.{Shown, Sources, report_text}
+use Rattle.outcome_claims.specs.Claims.{AreClaimed, Sources}
+use Rattle.outcome_report.specs.Lines.{Shown, report_text}
 
 -- what an outcome shows under some failures
 abbrev pub shown_of : PlainNet → PlainPolicy → PlainConfig → Failures → PlainPrefix → Outcome → Shown

@@ -8,12 +8,12 @@ ghost use Rattle.config_base.specs.Configs.{PlainConfig};
 ghost use Rattle.config_base.specs.Lines.{class_of};
 ghost use Rattle.net_base.specs.Network.{name_of};
 ghost use Rattle.policy_base.specs.Meaning.{alternative_count};
-ghost use Rattle.outcome_report.specs.Claims.{statement_in};
-ghost use Rattle.outcome_report.specs.Lines.{class_text, head_lines, next_name, offered_text, path_text, rank_by, ranked_text, source_text, used_text};
+ghost use Rattle.outcome_claims.specs.Claims.{rank_by, statement_in};
+ghost use Rattle.outcome_report.specs.Lines.{class_text, head_lines, next_name, offered_text, path_text, ranked_text, source_text, used_text};
 
-use crate::claims::Claims;
 use input_output::NoMemory;
 use net_base::{Loc, Net, Prefix};
+use outcome_claims::Claims;
 use text_parts::{push_bytes, push_name, push_number, push_prefix};
 
 // Adds the name of a location, where the network has it.

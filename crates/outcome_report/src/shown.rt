@@ -1,9 +1,9 @@
 //! What an outcome shows.
 ghost use Rattle.std.specs.Prelude.{◌≡◌, ◌∷◌, IfOk};
 
-use crate::reported::ReportedOutcome;
 use crate::scene::Scene;
 use net_base::Loc;
+use outcome_claims::ReportedOutcome;
 use std::alloc::{AllocError, Global};
 
 /// A path with a location in front.

@@ -1,14 +1,11 @@
 -- What a node offers once something is put behind its offers.
-use Rattle.std.proofs.Common.{◌≡◌, ℕ, ◌+◌, ◌<◌, ◌&&◌, ◌||◌, eqb, ltb, List, [], ◌∷◌, ◌++◌, Option, Some, None, length, get_or, set, sym, ap, subst, ◌∙◌, inl, inr}
-use Rattle.std.specs.List.{AllByRecursion}
+use Rattle.std.proofs.Common.{◌≡◌, ℕ, ◌+◌, ◌<◌, ◌&&◌, ◌||◌, eqb, ltb, List, [], ◌∷◌, ◌++◌, Option, Some, None, length, get_or, set, sym, ap, ◌∙◌, inl, inr}
 use Rattle.std.proofs.lemmas.Bool.{cases_eq, eq-eqb, ne_eqb}
 use Rattle.std.proofs.lemmas.List.{get_or-set_same, get_or-set_other}
 use Rattle.std.proofs.lemmas.List.Folds.{list_any-append}
-use Rattle.std.proofs.lemmas.Option.{slice_get-get_or}
 use Rattle.std.proofs.Math.Bool.{and-false, or-false}
-use Rattle.list_law.proofs.Each.{AllByRecursion_at}
 use Rattle.net_base.specs.declared.loc.LocSet.{LocSet}
-use Rattle.graph_base.specs.Graphs.{IsGraph, PlainGraph}
+use Rattle.graph_base.specs.Graphs.{PlainGraph}
 use Rattle.preference_check.specs.Offers.{is_good, is_offer, is_offered, offer_by_rank, offers_of}
 use Rattle.preference_check.specs.declared.offers.Offer.{Offer}
 use Rattle.preference_check.proofs.RunLemmas.{one_more}
@@ -40,12 +37,3 @@ pub put_rank : (g : PlainGraph) (claimed : LocSet) (node : ℕ) (offer : Option 
 put_rank g claimed node offer is n at cost = one_more n node (is_good (offer_by_rank g claimed n) at cost) (eqb node n && is_good offer at cost)
     (λ e. sym (ap (λ b. b && is_good offer at cost) (eq-eqb node n (sym e)) ∙ ap (λ o. is_good o at cost) (is ∙ ap (offer_by_rank g claimed) (sym e))))
     (λ apart. ap (λ b. b && is_good offer at cost) (ne_eqb node n (λ e. apart (sym e))))
-
--- a step of a graph is between nodes
-abbrev IsBetween : PlainGraph → ℕ × ℕ → Type 0
-IsBetween g s = (s.0 < length g.nodes) × (s.1 < length g.nodes)
-
-pub step_ends : (g : PlainGraph) (steps : List (ℕ × ℕ)) (i : ℕ) → IsGraph g → steps ≡ g.steps → i < length steps
-    → ((get_or steps i (0, 0)).0 < length g.nodes) × ((get_or steps i (0, 0)).1 < length g.nodes)
-step_ends g steps i is same within =
-    AllByRecursion_at (IsBetween g) steps i (get_or steps i (0, 0)) (subst (AllByRecursion (IsBetween g)) (sym same) is.steps) (slice_get-get_or steps i (0, 0) within)

@@ -12,7 +12,7 @@ use Rattle.net_base.specs.Network.{PlainNet}
 use Rattle.net_base.proofs.NumbersBelow.{length-numbers_below}
 use Rattle.policy_base.specs.declared.case.Case.{Case}
 use Rattle.policy_base.specs.Policies.{PlainPolicy}
-use Rattle.impact_report.specs.Tops.{entry_at}
+use Rattle.cut_ranks.specs.Tops.{entry_at}
 use Rattle.promises_report.specs.declared.group.Group.{Group}
 use Rattle.promises_report.specs.declared.standing.Standing.{Standing}
 use Rattle.promises_report.specs.declared.standing.Standing.TheVariants.{Source, Transit, Unclaimed, Used, Unused}

@@ -12,7 +12,7 @@ use Rattle.policy_base.specs.declared.case.Case.{Case}
 use Rattle.policy_base.specs.Policies.{PlainPolicy}
 use Rattle.evidence_base.specs.Made.{patterns_of}
 use Rattle.text_parts.specs.Texts.{pattern_text}
-use Rattle.impact_report.specs.Tops.{entry_at}
+use Rattle.cut_ranks.specs.Tops.{entry_at}
 use Rattle.promises_report.specs.Promises.{Promises}
 use Rattle.promises_report.specs.Standings.{Row, is_left, is_source_of, is_transit, is_unused, is_used, row_of}
 use Rattle.promises_report.specs.declared.standing.Standing.{Standing}

@@ -6,7 +6,7 @@ use Rattle.evidence_base.specs.Made.{PlainCaseEvidence}
 use Rattle.evidence_law.specs.Passes.{IsCaseGraph}
 use Rattle.impact_law.specs.BestRanks.{AreTops}
 use Rattle.outcome_base.specs.Outcomes.{no_failures}
-use Rattle.impact_report.specs.Tops.{entry_at}
+use Rattle.cut_ranks.specs.Tops.{entry_at}
 use Rattle.promises_report.specs.Laws.{told_by}
 use Rattle.promises_report.specs.Promises.{Promises}
 use Rattle.promises_report.specs.declared.told.Told.{Told}

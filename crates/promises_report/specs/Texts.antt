@@ -14,7 +14,7 @@ use Rattle.policy_base.specs.Meaning.{alternative_count}
 use Rattle.policy_base.specs.Policies.{PlainPolicy, PlainStatement, Ranking, statement_at}
 use Rattle.policy_text.specs.Choices.{rank_lines}
 use Rattle.text_parts.specs.Texts.{pattern_text, prefix_text}
-use Rattle.impact_report.specs.Tops.{entry_at}
+use Rattle.cut_ranks.specs.Tops.{entry_at}
 use Rattle.outcome_report.specs.Lines.{next_name}
 use Rattle.own_space.specs.declared.open_case.OpenCase.{OpenCase}
 use Rattle.own_space.specs.declared.open_part.OpenPart.{OpenPart}

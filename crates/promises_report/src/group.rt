@@ -2,7 +2,7 @@
 ghost use Rattle.std.specs.Prelude.{◌≡◌, ◌++◌, IfOk, OnOk, length, map};
 ghost use Rattle.std.specs.List.{list_any, position_or_len};
 ghost use Rattle.std.specs.Option.{option_or};
-ghost use Rattle.impact_report.specs.Tops.{entry_at};
+ghost use Rattle.cut_ranks.specs.Tops.{entry_at};
 ghost use Rattle.net_base.specs.Locations.{numbers_below};
 ghost use Rattle.promises_report.specs.Groups.{
   agree as agree_in,

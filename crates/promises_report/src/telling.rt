@@ -6,8 +6,8 @@ ghost use Rattle.graph_base.specs.Runs.{place_of};
 ghost use Rattle.promises_report.specs.Telling.{IsTold, promises_in};
 
 use crate::told::Told;
+use cut_ranks::{base_tops, rank_told};
 use evidence_base::CaseEvidence;
-use impact_report::{base_tops, rank_told};
 use input_output::NoMemory;
 use net_base::{Loc, Net};
 use reach_prune::{Way, neighbours};

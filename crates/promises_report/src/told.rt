@@ -1,7 +1,7 @@
 //! What the graph of a case tells.
 ghost use Rattle.std.proofs.Props.{props};
-ghost use Rattle.impact_report.specs.Paths.{AreStepLists};
-ghost use Rattle.impact_report.specs.Tops.{AreNodes};
+ghost use Rattle.cut_ranks.specs.Paths.{AreStepLists};
+ghost use Rattle.cut_ranks.specs.Tops.{AreNodes};
 
 use bit_rows::NodeList;
 use evidence_base::CaseEvidence;

@@ -3,7 +3,8 @@ use Rattle.std.proofs.lemmas.List.Elements.{All-push}
 use Rattle.graph_base.specs.Graphs.{PlainGraph}
 use Rattle.config_maker.specs.declared.hop.Hop.{Hop}
 use Rattle.config_maker.specs.Hops.{HasPref, hop_of}
-use Rattle.config_maker.proofs.Gathering.{one_more, step_ends}
+use Rattle.graph_base.proofs.StartsAndSteps.{step_ends}
+use Rattle.config_maker.proofs.Gathering.{one_more}
 use Rattle.config_maker.proofs.gather.add_hops.Goals as goal
 
 pub hop_of-requires-clause-from : goal.hop_of-requires-clause-from

@@ -8,8 +8,8 @@ use Rattle.config_base.specs.Lines.{class_of}
 use Rattle.evidence_base.specs.Made.{case_at}
 use Rattle.outcome_base.specs.Outcomes.{offered}
 use Rattle.scenarios.specs.Scenarios.{failures_of}
-use Rattle.outcome_report.specs.Offers.{offered_by}
-use Rattle.outcome_report.proofs.Offering.{offers_are}
+use Rattle.outcome_claims.specs.Offers.{offered_by}
+use Rattle.outcome_claims.proofs.Offering.{offers_are}
 use Rattle.impact_law.specs.Cuts.{live_cuts}
 use Rattle.drain_report.specs.Free.{spared_by}
 use Rattle.drain_report.specs.Steps.{held_steps, offer_step, steps_in}

@@ -4,10 +4,10 @@ use Rattle.evidence_base.specs.Made.{PlainCaseEvidence}
 use Rattle.evidence_law.specs.Passes.{IsCaseGraph}
 use Rattle.settled_outcome.specs.Surviving.{left_by}
 use Rattle.impact_law.specs.BestRanks.{AreTops, rank_by}
-use Rattle.impact_report.specs.Left.{IsOpened}
+use Rattle.cut_ranks.specs.Left.{IsOpened}
 use Rattle.impact_report.specs.Rows.{AreRows}
 use Rattle.impact_report.specs.Sources.{with_rank}
-use Rattle.impact_report.specs.Tops.{entry_at}
+use Rattle.cut_ranks.specs.Tops.{entry_at}
 use Rattle.impact_report.proofs.report.found_by.Goals as goal
 
 pub returns : goal.returns

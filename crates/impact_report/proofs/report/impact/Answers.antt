@@ -4,7 +4,7 @@ use Rattle.policy_base.specs.Policies.{policy_of}
 use Rattle.scenarios.specs.Scenarios.{failures_of}
 use Rattle.impact_law.specs.Cuts.{live_cuts}
 use Rattle.impact_law.specs.Impacts.{IsImpact}
-use Rattle.outcome_report.specs.Claims.{sources_of}
+use Rattle.outcome_claims.specs.Claims.{sources_of}
 use Rattle.impact_report.specs.Found.{IsFound}
 use Rattle.impact_report.proofs.Whole.{bare, steps_differ, whole}
 use Rattle.impact_report.proofs.report.impact.Goals as goal

@@ -1,5 +1,5 @@
 use Rattle.std.proofs.Common.{◌≡◌, map, take}
-use Rattle.impact_report.specs.Tops.{entry_at}
+use Rattle.cut_ranks.specs.Tops.{entry_at}
 use Rattle.impact_law.specs.BestRanks.{rank_by}
 use Rattle.impact_report.specs.Sources.{with_rank}
 use Rattle.impact_report.proofs.report.ranked.Given as goal

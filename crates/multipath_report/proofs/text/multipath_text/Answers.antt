@@ -5,7 +5,7 @@ use Rattle.net_base.specs.declared.loc.LocSet.{LocSet}
 use Rattle.location_names.specs.Neighbours.{is_held}
 use Rattle.policy_base.specs.Policies.{policy_of}
 use Rattle.scenarios.specs.Scenarios.{failures_of}
-use Rattle.outcome_report.specs.Claims.{sources_of, statement_in}
+use Rattle.outcome_claims.specs.Claims.{sources_of, statement_in}
 use Rattle.outcome_report.specs.Lines.{head_lines}
 use Rattle.multipath_report.specs.Texts.{count_line, idle_line, lines_by, router_line, session_line}
 use Rattle.multipath_report.specs.Told.{shown_in}

@@ -2,7 +2,7 @@ use Rattle.std.proofs.Common.{◌++◌, append_assoc, length, refl, ap, ◌∙�
 use Rattle.std.specs.List.{flat_map}
 use Rattle.net_base.specs.Locations.{numbers_below}
 use Rattle.policy_base.specs.Policies.{policy_of}
-use Rattle.outcome_report.specs.Claims.{sources_of, statement_in}
+use Rattle.outcome_claims.specs.Claims.{sources_of, statement_in}
 use Rattle.outcome_report.specs.Lines.{head_lines, lines_by, router_line, session_line}
 use Rattle.outcome_report.proofs.Texts.{whole}
 use Rattle.outcome_report.proofs.reporting.push_report.Goals as goal

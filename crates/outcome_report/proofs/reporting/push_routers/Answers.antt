@@ -2,7 +2,7 @@ use Rattle.std.proofs.Common.{◌≡◌, ◌++◌, ℕ, List, add-one, ap, arith
 use Rattle.std.proofs.lemmas.List.{flat_map_more}
 use Rattle.net_base.specs.Locations.{numbers_below}
 use Rattle.policy_base.specs.Policies.{policy_of}
-use Rattle.outcome_report.specs.Claims.{sources_of, statement_in}
+use Rattle.outcome_claims.specs.Claims.{sources_of, statement_in}
 use Rattle.outcome_report.specs.Lines.{router_line}
 use Rattle.outcome_report.proofs.reporting.push_routers.Goals as goal
 

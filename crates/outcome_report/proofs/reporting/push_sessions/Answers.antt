@@ -1,6 +1,6 @@
 use Rattle.std.proofs.Common.{◌++◌, ◌∷◌, ℕ, List, [], ap, flat_map, sym, take, ◌∙◌}
 use Rattle.std.proofs.lemmas.List.{flat_map_more, take_all, take_more}
-use Rattle.outcome_report.specs.Claims.{statement_in}
+use Rattle.outcome_claims.specs.Claims.{statement_in}
 use Rattle.outcome_report.specs.Lines.{session_line}
 use Rattle.outcome_report.proofs.reporting.push_sessions.Goals as goal
 

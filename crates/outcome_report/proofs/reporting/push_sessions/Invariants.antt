@@ -1,6 +1,6 @@
 use Rattle.std.proofs.Common.{◌≡◌, ◌++◌, take}
 use Rattle.std.specs.List.{flat_map}
-use Rattle.outcome_report.specs.Claims.{statement_in}
+use Rattle.outcome_claims.specs.Claims.{statement_in}
 use Rattle.outcome_report.specs.Lines.{session_line}
 use Rattle.outcome_report.proofs.reporting.push_sessions.Given as goal
 

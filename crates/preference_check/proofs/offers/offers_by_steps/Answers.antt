@@ -4,7 +4,7 @@ use Rattle.std.proofs.lemmas.List.{length-replicate, take_all}
 use Rattle.std.proofs.lemmas.List.Folds.{list_any_more}
 use Rattle.list_law.proofs.Items.{get_or-replicate_same}
 use Rattle.preference_check.specs.Offers.{is_good, is_offered, offer_by_step}
-use Rattle.preference_check.proofs.Put.{step_ends}
+use Rattle.graph_base.proofs.StartsAndSteps.{step_ends}
 use Rattle.preference_check.proofs.offers.offers_by_steps.Goals as goal
 
 pub offer_by_step-offer-requires-clause-node : goal.offer_by_step-offer-requires-clause-node

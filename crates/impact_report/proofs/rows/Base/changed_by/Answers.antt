@@ -6,10 +6,10 @@ use Rattle.impact_law.specs.Cuts.{with_cut}
 use Rattle.impact_law.specs.Impacts.{changed}
 use Rattle.outcome_base.specs.Outcomes.{no_failures}
 use Rattle.impact_law.specs.declared.impact.SourceRank.{SourceRank}
-use Rattle.impact_report.specs.Paths.{rank_under}
+use Rattle.cut_ranks.specs.Paths.{rank_under}
 use Rattle.impact_report.specs.Rows.{IsChange}
 use Rattle.impact_report.specs.Sources.{reranked}
-use Rattle.impact_report.specs.Tops.{entry_at}
+use Rattle.cut_ranks.specs.Tops.{entry_at}
 use Rattle.impact_report.proofs.Ranking.{change_by_tops}
 use Rattle.impact_report.proofs.rows.Base.changed_by.Goals as goal
 

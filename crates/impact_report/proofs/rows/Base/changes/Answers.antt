@@ -3,12 +3,12 @@ use Rattle.std.specs.Prelude.{nat_eq, if◌then◌else◌}
 use Rattle.std.specs.Option.{option_eq}
 use Rattle.std.proofs.lemmas.Bool.{not-false, not-true}
 use Rattle.std.proofs.lemmas.List.{take_all}
-use Rattle.impact_report.specs.Tops.{entry_at}
+use Rattle.cut_ranks.specs.Tops.{entry_at}
 use Rattle.impact_law.specs.Cuts.{with_cut}
 use Rattle.impact_law.specs.Impacts.{changed, same_rank}
 use Rattle.outcome_base.specs.Outcomes.{no_failures}
 use Rattle.impact_law.specs.declared.impact.SourceRank.{SourceRank}
-use Rattle.impact_report.specs.Paths.{rank_under}
+use Rattle.cut_ranks.specs.Paths.{rank_under}
 use Rattle.impact_report.specs.Sources.{reranked}
 use Rattle.impact_report.proofs.Changing.{changed_next, same_is}
 use Rattle.impact_report.proofs.rows.Base.changes.Goals.{then-ne+in_ok-push, else-ne}

@@ -1,9 +1,9 @@
 use Rattle.std.proofs.Common.{◌≡◌, map, take}
-use Rattle.impact_report.specs.Tops.{entry_at}
+use Rattle.cut_ranks.specs.Tops.{entry_at}
 use Rattle.impact_law.specs.Cuts.{with_cut}
 use Rattle.impact_law.specs.Impacts.{changed}
 use Rattle.outcome_base.specs.Outcomes.{no_failures}
-use Rattle.impact_report.specs.Paths.{rank_under}
+use Rattle.cut_ranks.specs.Paths.{rank_under}
 use Rattle.impact_report.specs.Sources.{reranked}
 use Rattle.impact_report.proofs.rows.Base.changes.Given as goal
 

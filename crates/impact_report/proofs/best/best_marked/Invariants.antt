@@ -1,6 +1,0 @@
-use Rattle.reach_prune.specs.Searches.{is_marked}
-use Rattle.impact_report.specs.Tops.{AreBest}
-use Rattle.impact_report.proofs.best.best_marked.Given as goal
-
-abbrev pub invariant-loop-node : goal.invariant-loop-node
-invariant-loop-node l = AreBest l.case (is_marked l.marks) l.routers l.node l.tops.items

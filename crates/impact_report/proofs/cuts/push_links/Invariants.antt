@@ -1,6 +1,0 @@
-use Rattle.std.proofs.Common.{◌≡◌, ◌++◌, take}
-use Rattle.impact_report.specs.Lives.{link_cuts}
-use Rattle.impact_report.proofs.cuts.push_links.Given as goal
-
-abbrev pub invariant-loop-link : goal.invariant-loop-link
-invariant-loop-link l = l.cuts.items ≡ l.initial.cuts.items ++ link_cuts l.net l.survivors (take l.link-index l.link-items)
