@@ -25,7 +25,7 @@ fn fault_line<F: TextFault>(alloc: Global, text: &[u8], fault: &F) -> Result<Vec
 }
 
 /// What was read of a text of this kind, or why the run stops: its fault is told.
-pub(crate) fn or_told<T, F: TextFault + Copy>(
+pub fn or_told<T, F: TextFault + Copy>(
     alloc: Global,
     text: &[u8],
     read: Result<T, F>,

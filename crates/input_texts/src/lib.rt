@@ -19,6 +19,7 @@
 mod fault_lines;
 mod texts;
 
+pub use fault_lines::or_told;
 pub use texts::{
     config_1_for, config_for, events_for, evidence_for, maps_for, net_of, policy_for, scenario_for,
     tables_for,

@@ -1,54 +1,15 @@
 //! The texts of an old and a new configuration.
-ghost use Rattle.std.specs.Prelude.{◌≡◌, ◌<◌, length, IfErr, IfOk, Ok};
+ghost use Rattle.std.specs.Prelude.{◌<◌, length};
 ghost use Rattle.config_base.specs.Configs.{PlainConfig};
 ghost use Rattle.config_reader.specs.Text.{spelled};
-ghost use Rattle.input_texts.specs.FaultLines.{fault_line as line_of};
-ghost use Rattle.input_texts.specs.Texts.{IsReadOr, TellsFault};
+ghost use Rattle.input_texts.specs.Texts.{IsReadOr};
 ghost use Rattle.stage_jobs.specs.Betweens.{after_line, before_line};
 
 use config_base::Config;
 use config_reader::read_config;
-use input_output::NoMemory;
-use run_base::{Status, Stop};
+use input_texts::or_told;
+use run_base::Stop;
 use std::alloc::Global;
-use text_parts::{TextFault, push_bytes, push_number, push_word};
-
-// The line that tells a fault of a kind of text: the number of the rule, its word and its values.
-#[tactic(auto, unfolding(input_texts::specs::FaultLines::fault_line))]
-fn fault_line<F: TextFault>(alloc: Global, text: &[u8], fault: &F) -> Result<Vec<u8>, NoMemory>
-    ensures { IfOk result (λ v. v.items ≡ line_of F.telling text.now fault.now) }
-{
-    let mut line = Vec::new(alloc);
-    push_bytes(&mut line, b"propane: ")?;
-    push_bytes(&mut line, text)?;
-    push_bytes(&mut line, b" ")?;
-    push_number(&mut line, u64::from(fault.number()))?;
-    push_word(&mut line, fault.word())?;
-    fault.push_values(&mut line)?;
-    push_bytes(&mut line, b"\n")?;
-    Ok(line)
-}
-
-// What was read of a text of this kind, or why the run stops: its fault is told.
-fn or_told<T, F: TextFault + Copy>(
-    alloc: Global,
-    text: &[u8],
-    read: Result<T, F>,
-) -> Result<T, Stop>
-    ensures same { IfOk result (λ x. read ≡ Ok x) }
-    ensures told { IfErr result (TellsFault F.telling text.now read) }
-{
-    match read {
-        Ok(value) => Ok(value),
-        Err(fault) => {
-            if fault.is_no_memory() {
-                return Err(Stop::NoMemory);
-            }
-            let line = fault_line(alloc, text, &fault)?;
-            Err(Stop::Line(Status::BadInput, line))
-        }
-    }
-}
 
 /// The old configuration that the bytes spell, or why the run stops.
 pub fn before_config_for(alloc: Global, config: &[u8]) -> Result<Config, Stop>
