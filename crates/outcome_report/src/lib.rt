@@ -6,10 +6,8 @@
 //! An outcome is one (`ReportedOutcome`, `report`), and so is anything else that has these three answers. `specs/Report`
 //! says the text, and `reports_are_one` that there is only one.
 //!
-//! `claims_of` gives the sources that the policy claims for a prefix. To find them by the policy's words alone, one would
-//! have to search for walks. They are read off the graph of the prefix's case instead, by its ranked nodes, since evidence
-//! that passes shows them. So no configuration is made for a report: its class is that of the case, and over which links
-//! routes go on to peers is told by the steps of the graph and the tags of the routes.
+//! Who is claimed, and what peers are offered, is found by `outcome_claims`. No configuration is made for a report: its class
+//! is that of the prefix's case.
 //!
 //! A path is told with its rank where the policy claims its router and the path has one, and else as transit.
 //!
