@@ -9,7 +9,6 @@ from texts.policy import cut
 from texts.prefixes import covers, prefix_of
 from texts.promises import Promised, promises_of
 from texts.scenario import Scenario, pairs, read_scenario
-from texts.tokens import WORDS
 from texts.topology import Topology
 
 EXAMPLES = os.path.join(TOP, "examples")
@@ -108,12 +107,6 @@ class Texts(unittest.TestCase):
             self.assertTrue(wanted)
             with self.assertRaises(Fault):
                 cases_of(policy, names, lambda _: "")
-
-    def test_the_words_are_those_of_the_editor(self):
-        """The words of the language in tools/share are those of the token table."""
-        with open(os.path.join(TOP, "tools", "share", "propane.vim"), encoding="utf-8") as file:
-            lines = [line.split() for line in file if line.startswith("syntax keyword ") and "Todo" not in line]
-        self.assertEqual(sorted(word for line in lines for word in line[3:]), sorted(WORDS))
 
 
 if __name__ == "__main__":

@@ -5,7 +5,7 @@ use Rattle.std.proofs.lemmas.List.{append-nil, map-append, take_more}
 use Rattle.std.proofs.lemmas.Grind.{flat_map-append}
 use Rattle.net_base.specs.Network.{PlainNet}
 use Rattle.net_base.specs.declared.loc.LocSet.{LocSet}
-use Rattle.policy_base.specs.declared.call.SetCall.{SetCall}
+use Rattle.policy_words.specs.declared.word.SetCall.{SetCall}
 use Rattle.policy_base.specs.declared.call.Call.TheVariants.{Of}
 use Rattle.path_exprs.specs.Expression.{Expression}
 use Rattle.path_exprs.specs.Forward.{both_of_two, forward}

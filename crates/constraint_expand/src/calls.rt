@@ -3,12 +3,13 @@ ghost use Rattle.std.specs.Prelude.{◌≡◌, IfOk};
 ghost use Rattle.path_exprs.specs.Expression.{Expression};
 ghost use Rattle.path_exprs.specs.Normal.{all};
 ghost use Rattle.path_exprs.specs.View.{view};
-ghost use Rattle.policy_base.specs.declared.call.SetCall.TheVariants.{Avoid, NoTransit, Exit, Enter};
+ghost use Rattle.policy_words.specs.declared.word.SetCall.TheVariants.{Avoid, NoTransit, Exit, Enter};
 ghost use Rattle.path_exprs.specs.Forward.{forward as forward_of, forward_set as forward_set_of, in_turn as in_turn_of, either_of_two as either_of};
 
 use net_base::{LocSet, Net};
 use path_exprs::Expr;
-use policy_base::{Call, SetCall};
+use policy_base::Call;
+use policy_words::SetCall;
 use std::alloc::{AllocError, Global};
 
 // The expression that holds every list.

@@ -14,7 +14,8 @@ use crate::fault::ExpandFault;
 use net_base::{LocSet, Net};
 use path_exprs::{Part, Parts, RankedExpr};
 use policy_base::limits::ALTERNATIVES;
-use policy_base::{Ranked, SetCall, alternatives};
+use policy_base::{Ranked, alternatives};
+use policy_words::SetCall;
 use std::alloc::{AllocError, Global};
 
 // The number of a part that is put behind the others, alone.

@@ -4,7 +4,7 @@ use Rattle.policy_tokens.specs.declared.fault.PolicyFault.{PolicyFault}
 use Rattle.policy_grammar.specs.declared.lexeme.Lexeme.{Lexeme}
 use Rattle.policy_grammar.specs.declared.symbol.Symbol.{Symbol}
 use Rattle.policy_grammar.specs.declared.symbol.Symbol.TheVariants as symbol
-use Rattle.policy_base.specs.declared.call.CallWord.{CallWord}
+use Rattle.policy_words.specs.declared.word.CallWord.{CallWord}
 use Rattle.policy_grammar.specs.Raw.{RawCall, Step, Step as step}
 use Rattle.policy_grammar.specs.Reading.{Read, refused, after}
 use Rattle.policy_grammar.specs.Calls.{call_at}

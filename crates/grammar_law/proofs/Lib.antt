@@ -21,4 +21,3 @@ pub mod TextLaws
 mod Tokens
 mod WholeCalls
 mod WholeItems
-mod Words

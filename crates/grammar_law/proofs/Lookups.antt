@@ -1,16 +1,15 @@
 -- What the first token is.
-use Rattle.std.proofs.Common.{◌≡◌, ℕ, Bool, true, false, ◌⊎◌, inl, inr, List, ◌∷◌, map, Some, None, ◌+◌, arith, refl, sym, ap, ◌∙◌, eqb-true, eq-eqb, true≢false}
+use Rattle.std.proofs.Common.{◌≡◌, ℕ, Bool, true, false, ◌⊎◌, inl, inr, List, [], ◌∷◌, map, Some, None, ◌+◌, arith, refl, sym, ap, ◌∙◌, eqb-true, eq-eqb, true≢false}
 use Rattle.std.specs.Prelude.{◌==◌}
 use lib.ListN.{get_or}
 use Rattle.policy_grammar.specs.declared.lexeme.Lexeme.{Lexeme}
 use Rattle.policy_grammar.specs.declared.symbol.Symbol.{Symbol}
 use Rattle.policy_grammar.specs.declared.symbol.Symbol.TheVariants.{Define, Originate, At, From, True, Le, Or, And, Not, Call, Name, Figure, Arrow, Above, Equals}
 use Rattle.policy_grammar.specs.declared.symbol.Symbol.TheVariants.{BraceOpen, BraceClose, RoundOpen, RoundClose, Comma, Semicolon, EndOfText}
-use Rattle.policy_base.specs.declared.call.SetCall.{SetCall}
-use Rattle.policy_base.specs.declared.call.SetCall.TheVariants.{Avoid, Through, NoTransit, Start, End, Exit, Enter}
-use Rattle.policy_base.specs.declared.call.CallWord.{CallWord}
-use Rattle.policy_base.specs.declared.call.CallWord.TheVariants.{Any, Drop, Internal, Link, Path, Of}
-use Rattle.policy_base.specs.CallWords.{call_words}
+use Rattle.policy_words.specs.declared.word.SetCall.{SetCall}
+use Rattle.policy_words.specs.declared.word.SetCall.TheVariants.{Avoid, Through, NoTransit, Start, End, Exit, Enter}
+use Rattle.policy_words.specs.declared.word.CallWord.{CallWord}
+use Rattle.policy_words.specs.declared.word.CallWord.TheVariants.{Any, Drop, Internal, Link, Path, Of}
 use Rattle.policy_grammar.specs.Symbols.{call_number, number_of, set_number}
 use Rattle.policy_grammar.specs.Reading.{past}
 use Rattle.grammar_law.specs.Grammar.{Is}
@@ -18,7 +17,8 @@ use Rattle.grammar_law.specs.Grammar.{Is}
 abbrev in_order : List Symbol
 in_order =
     Define ∷ Originate ∷ At ∷ From ∷ True ∷ Le ∷ Or ∷ And ∷ Not ∷ Name ∷ Figure ∷ Arrow ∷ Above ∷ Equals
-    ∷ BraceOpen ∷ BraceClose ∷ RoundOpen ∷ RoundClose ∷ Comma ∷ Semicolon ∷ map Call call_words
+    ∷ BraceOpen ∷ BraceClose ∷ RoundOpen ∷ RoundClose ∷ Comma ∷ Semicolon
+    ∷ map Call (Any ∷ Drop ∷ Internal ∷ Link ∷ Path ∷ map Of (Avoid ∷ Through ∷ NoTransit ∷ Start ∷ End ∷ Exit ∷ Enter ∷ []))
 
 numbered : ℕ → Symbol
 numbered n = get_or in_order n EndOfText

@@ -3,7 +3,7 @@ use Rattle.std.proofs.Common.{◌≡◌, inl, inr, List, [], ◌∷◌, ◌++◌
 use Rattle.policy_grammar.specs.declared.lexeme.Lexeme.{Lexeme}
 use Rattle.policy_grammar.specs.declared.symbol.Symbol.{Symbol}
 use Rattle.policy_grammar.specs.declared.symbol.Symbol.TheVariants.{Call, Name, Comma, BraceOpen, BraceClose}
-use Rattle.policy_base.specs.declared.call.CallWord.TheVariants.{Any}
+use Rattle.policy_words.specs.declared.word.CallWord.TheVariants.{Any}
 use Rattle.policy_grammar.specs.Raw.{Arg, Arg as arg}
 use Rattle.policy_grammar.specs.Reading.{Read, refused, past, first_of, after, either}
 use Rattle.policy_grammar.specs.Names.{names_at, braced_at}

@@ -5,8 +5,8 @@ use Rattle.net_base.specs.declared.place.Place.{Place}
 use Rattle.policy_grammar.specs.declared.lexeme.Lexeme.{Lexeme}
 use Rattle.policy_grammar.specs.declared.symbol.Symbol.TheVariants.{Call, Above, Comma, RoundOpen, RoundClose}
 use Rattle.policy_grammar.specs.Raw.{Arg, RawCall}
-use Rattle.policy_base.specs.declared.call.SetCall.{SetCall}
-use Rattle.policy_base.specs.declared.call.CallWord.TheVariants.{Of}
+use Rattle.policy_words.specs.declared.word.SetCall.{SetCall}
+use Rattle.policy_words.specs.declared.word.CallWord.TheVariants.{Of}
 use Rattle.policy_grammar.specs.Reading.{Read, past, after, either, chain}
 use Rattle.policy_grammar.specs.Calls.{set_at, set_link, above_at, sets_call}
 use Rattle.net_base.specs.Steps.{◌>>=◌}

@@ -1,4 +1,3 @@
 pub mod Fronts
 pub mod Grammar
 pub mod Spans
-pub mod Words

@@ -12,7 +12,6 @@
 //! | `syntax_names_the_first_wrong_token` | `Syntax` names the first token with which no policy goes on |
 //! | `tokens_are_cut_from_the_text` | a text's tokens are the pieces of it that are neither blanks nor comments |
 //! | `tokens_ascend` | they stand in order, each where its span says |
-//! | `reserved_calls_are_calls` | of the words that no name can be, those of calls are just the words of the table of calls |
 //!
 //! The grammar has no limit on brackets. What is read has one, which is a fault of its own: `first_deep` finds a bracket that
 //! opens while 64 are open, and a text that has one is refused before its grammar is judged.
@@ -35,7 +34,6 @@ ghost use Rattle.policy_tokens.specs.Places.{place_of};
 ghost use Rattle.policy_tokens.specs.Tokens.{tokens_of};
 ghost use Rattle.grammar_law.specs.Fronts.{FirstWrong};
 ghost use Rattle.grammar_law.specs.Grammar.{IsPolicy};
-ghost use Rattle.grammar_law.specs.Words.{ReservedCallsAreCalls};
 ghost use Rattle.grammar_law.specs.Spans.{SpansAscend, IsCut, HasItsBytes, PlacesAscend};
 
 use policy_tokens::PolicyFault;
@@ -81,10 +79,4 @@ pub fn tokens_ascend()
     ensures spans { (text : List ℕ) (tokens : List Token) → tokens_of text ≡ Ok tokens → SpansAscend 0 tokens (length text) }
     ensures bytes { (text : List ℕ) (tokens : List Token) → tokens_of text ≡ Ok tokens → AllByRecursion (HasItsBytes text) tokens }
     ensures places { (text : List ℕ) (tokens : List Token) → tokens_of text ≡ Ok tokens → PlacesAscend tokens (place_of text (length text)) }
-{}
-
-/// Of the words that no name can be, those of calls are just the words of the table of calls: a name can be told from each call, and
-/// no word is kept from names for a call that isn't there.
-pub fn reserved_calls_are_calls()
-    ensures { ReservedCallsAreCalls }
 {}

@@ -1,18 +1,9 @@
 //! Names of locations.
 ghost use Rattle.std.specs.Prelude.{◌≡◌, ◌≤◌, ◌↔◌, length, IsTrue, IsSome, IfSome};
 ghost use Rattle.std.specs.List.{list_all};
-ghost use Rattle.std.specs.Str.{bytes_eq};
-ghost use Rattle.net_base.specs.NameRule.{
-  is_name,
-  is_letter as letter,
-  is_name_byte as name_byte,
-  is_item_word as item_word,
-  is_operator as operator,
-  is_path_call as path_call,
-  is_place_call as place_call,
-  is_reserved as reserved,
-};
+ghost use Rattle.net_base.specs.NameRule.{is_name, is_letter as letter, is_name_byte as name_byte};
 
+use policy_words::Word;
 use std::marker::Model;
 
 /// A name by the rule of names. It is copied, and takes no memory.
@@ -63,68 +54,6 @@ fn are_name_bytes(bytes: &[u8]) -> bool
     bytes.iter().all(|b| is_name_byte(*b))
 }
 
-// Whether the bytes are those of the word.
-fn spells(bytes: &[u8], word: &str) -> bool
-    ensures { result ≡ bytes_eq bytes.now word.now }
-{
-    bytes == word.as_bytes()
-}
-
-// Whether the bytes are a word that items of the policy language use.
-#[tactic(auto, unfolding(crate::specs::NameRule::is_item_word))]
-fn is_item_word(bytes: &[u8]) -> bool
-    ensures { result ≡ item_word bytes.now }
-{
-    spells(bytes, "define")
-        || spells(bytes, "originate")
-        || spells(bytes, "at")
-        || spells(bytes, "from")
-        || spells(bytes, "true")
-        || spells(bytes, "le")
-}
-
-// Whether the bytes are an operator of the policy language.
-#[tactic(auto, unfolding(crate::specs::NameRule::is_operator))]
-fn is_operator(bytes: &[u8]) -> bool
-    ensures { result ≡ operator bytes.now }
-{
-    spells(bytes, "or") || spells(bytes, "and") || spells(bytes, "not")
-}
-
-// Whether the bytes are a call that speaks of a whole path.
-#[tactic(auto, unfolding(crate::specs::NameRule::is_path_call))]
-fn is_path_call(bytes: &[u8]) -> bool
-    ensures { result ≡ path_call bytes.now }
-{
-    spells(bytes, "any")
-        || spells(bytes, "drop")
-        || spells(bytes, "internal")
-        || spells(bytes, "avoid")
-        || spells(bytes, "through")
-        || spells(bytes, "notransit")
-}
-
-// Whether the bytes are a call that speaks of places of a path.
-#[tactic(auto, unfolding(crate::specs::NameRule::is_place_call))]
-fn is_place_call(bytes: &[u8]) -> bool
-    ensures { result ≡ place_call bytes.now }
-{
-    spells(bytes, "start")
-        || spells(bytes, "end")
-        || spells(bytes, "link")
-        || spells(bytes, "path")
-        || spells(bytes, "exit")
-        || spells(bytes, "enter")
-}
-
-// Whether the bytes are a word of the policy language.
-#[tactic(auto, unfolding(crate::specs::NameRule::is_reserved))]
-fn is_reserved(bytes: &[u8]) -> bool
-    ensures { result ≡ reserved bytes.now }
-{
-    is_item_word(bytes) || is_operator(bytes) || is_path_call(bytes) || is_place_call(bytes)
-}
-
 // Whether the bytes are a name by the rule of names: short enough, a letter first, and no word of the policy language.
 #[tactic(auto, unfolding(crate::specs::NameRule::is_name))]
 fn spells_name(bytes: &[u8]) -> bool
@@ -140,7 +69,7 @@ fn spells_name(bytes: &[u8]) -> bool
     if !are_name_bytes(bytes) {
         return false;
     }
-    !is_reserved(bytes)
+    Word::named(bytes).is_none()
 }
 
 impl Name {

@@ -9,8 +9,8 @@ use Rattle.net_base.specs.Network.{PlainNet, IsNet, is_location}
 use Rattle.net_base.specs.Sets.{holds}
 use Rattle.policy_base.specs.declared.call.Call.{Call}
 use Rattle.policy_base.specs.declared.call.Call.TheVariants.{Any, Drop, Internal, Link, Path, Of}
-use Rattle.policy_base.specs.declared.call.SetCall.{SetCall}
-use Rattle.policy_base.specs.declared.call.SetCall.TheVariants.{Avoid, Through, NoTransit, Start, End, Exit, Enter}
+use Rattle.policy_words.specs.declared.word.SetCall.{SetCall}
+use Rattle.policy_words.specs.declared.word.SetCall.TheVariants.{Avoid, Through, NoTransit, Start, End, Exit, Enter}
 use Rattle.policy_base.specs.Meaning.{at_first, at_last, front, some_step, each_in, meets, meets_set}
 use Rattle.path_exprs.specs.Language.{Language, nothing, one_of, divides, repeats}
 use Rattle.path_exprs.specs.Membership.{member}

@@ -4,7 +4,7 @@ use Rattle.std.specs.Prelude.{None, option_map, option_and_then}
 use Rattle.std.specs.Option.{option_or}
 use Rattle.net_base.specs.Network.{PlainNet}
 use Rattle.net_base.specs.declared.loc.LocSet.{LocSet}
-use Rattle.policy_base.specs.declared.call.SetCall.{SetCall}
+use Rattle.policy_words.specs.declared.word.SetCall.{SetCall}
 use Rattle.policy_base.specs.declared.call.Call.{Call}
 use Rattle.policy_base.specs.declared.call.Call.TheVariants.{Of}
 use Rattle.policy_base.specs.declared.ranked.Ranked.{Ranked, Call as OneCall, Calls, Prefer, Or, And, Not, the_lemmas}

@@ -6,8 +6,8 @@ use Rattle.net_base.specs.Network.{PlainNet, is_peer}
 use Rattle.net_base.specs.Sets.{holds}
 use Rattle.policy_base.specs.declared.call.Call.{Call}
 use Rattle.policy_base.specs.declared.call.Call.TheVariants.{Any, Drop, Internal, Link, Path, Of}
-use Rattle.policy_base.specs.declared.call.SetCall.{SetCall}
-use Rattle.policy_base.specs.declared.call.SetCall.TheVariants.{Avoid, Through, NoTransit, Start, End, Exit, Enter}
+use Rattle.policy_words.specs.declared.word.SetCall.{SetCall}
+use Rattle.policy_words.specs.declared.word.SetCall.TheVariants.{Avoid, Through, NoTransit, Start, End, Exit, Enter}
 use Rattle.policy_base.specs.Policies.{Ranking, call, calls, prefer, either, both, negated}
 
 -- a test of the first or the last place; a place that the list doesn't have fails it

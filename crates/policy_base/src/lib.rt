@@ -42,7 +42,7 @@ mod rank;
 mod ranked;
 mod walk;
 
-pub use call::{Call, CallWord, SetCall};
+pub use call::Call;
 pub use case::{Case, CaseList};
 pub use case_laws::{cases_fit_their_origins, cases_have_statements};
 pub use case_list::cases;

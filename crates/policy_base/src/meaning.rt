@@ -5,8 +5,9 @@ ghost use Rattle.net_base.specs.Network.{is_peer};
 ghost use Rattle.net_base.specs.Sets.{holds};
 ghost use Rattle.policy_base.specs.Meaning.{at_first, at_last, front as front_of, some_step, each_in, meets as meets_call, meets_set as meets_set_call};
 
-use crate::call::{Call, SetCall};
+use crate::call::Call;
 use net_base::{Loc, LocSet, Net};
+use policy_words::SetCall;
 
 /// The path without its last location.
 pub(crate) fn front(path: &[Loc]) -> &[Loc]

@@ -6,10 +6,10 @@ ghost use Rattle.policy_base.specs.declared.call.Call.TheVariants.{Of};
 ghost use Rattle.policy_base.specs.Policies.{ranking_of, Ranking};
 ghost use Rattle.policy_base.specs.Meaning.{alternative_count, alternatives as tests, some_test, place_of, rank_of as rank};
 
-use crate::call::SetCall;
 use crate::meaning::{meets, meets_set};
 use crate::ranked::Ranked;
 use net_base::{Loc, LocSet, Net};
+use policy_words::SetCall;
 
 /// How many alternatives a ranked expression stands for; 18,446,744,073,709,551,615 where there are more.
 pub fn alternatives(ranked: &Ranked) -> u64

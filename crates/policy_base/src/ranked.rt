@@ -1,6 +1,7 @@
 //! Ranked expressions.
-use crate::call::{Call, SetCall};
+use crate::call::Call;
 use net_base::{List, LocSet};
+use policy_words::SetCall;
 
 /// A ranked expression over calls: it stands for a list of alternatives, the best one first.
 #[derive(Drop)]

@@ -1,16 +1,19 @@
 -- What tokens stand for.
-use Rattle.std.proofs.Common.{◌≡◌, ℕ, ◌+◌, ◌<◌, Bool, true, false, List, [], ◌∷◌, codes, Option, Some, None, if◌then◌else◌, refl, eqb-true, bytes_eq, arith}
-use Rattle.std.specs.Prelude.{◌==◌}
+use Rattle.std.proofs.Common.{◌≡◌, ℕ, ◌+◌, ◌<◌, Bool, true, false, List, Option, Some, None, refl, eqb-true, arith}
+use Rattle.std.specs.Prelude.{◌==◌, option_map}
+use Rattle.std.specs.Option.{unwrap_or}
 use Rattle.policy_tokens.specs.declared.token.TokenKind.{TokenKind}
 use Rattle.policy_tokens.specs.declared.token.TokenKind.TheVariants as kind
 use Rattle.policy_grammar.specs.declared.symbol.Symbol.{Symbol}
-use Rattle.policy_grammar.specs.declared.symbol.Symbol.TheVariants.{Define, Originate, At, From, True, Le, Or, And, Not, Call, Name, RoundOpen, RoundClose, EndOfText}
-use Rattle.policy_grammar.specs.Symbols.{set_number, call_number, number_of, item_word, operator, spelled_of, call_word, word_symbol, symbol_of}
-use Rattle.policy_base.specs.declared.call.SetCall.{SetCall}
-use Rattle.policy_base.specs.declared.call.SetCall.TheVariants.{Avoid, Through, NoTransit, Start, End, Exit, Enter}
-use Rattle.policy_base.specs.declared.call.CallWord.{CallWord}
-use Rattle.policy_base.specs.declared.call.CallWord.TheVariants.{Any, Drop, Internal, Link, Path, Of}
-use Rattle.policy_base.specs.CallWords.{call_words, word_text}
+use Rattle.policy_grammar.specs.declared.symbol.Symbol.TheVariants.{Call, Name, RoundOpen, RoundClose, EndOfText}
+use Rattle.policy_grammar.specs.Symbols.{set_number, call_number, number_of, symbol_of_word, word_symbol, symbol_of}
+use Rattle.policy_words.specs.declared.word.SetCall.{SetCall}
+use Rattle.policy_words.specs.declared.word.SetCall.TheVariants.{Avoid, Through, NoTransit, Start, End, Exit, Enter}
+use Rattle.policy_words.specs.declared.word.CallWord.{CallWord}
+use Rattle.policy_words.specs.declared.word.CallWord.TheVariants.{Any, Drop, Internal, Link, Path, Of}
+use Rattle.policy_words.specs.declared.word.Word.{Word}
+use Rattle.policy_words.specs.declared.word.Word.TheVariants as word
+use Rattle.policy_words.specs.Words.{word_named}
 use Rattle.policy_grammar.specs.Deep.{is_too_deep, open_behind}
 
 -- ---- the numbers of calls
@@ -59,49 +62,25 @@ IsInner RoundClose = ⊥
 IsInner EndOfText = ⊥
 IsInner _ = Unit {0}
 
-abbrev Inner : Option Symbol → Type 0
-Inner None = Unit {0}
-Inner (Some s) = IsInner s
-
-word_or : (s : Symbol) (bs word : List ℕ) (o : Option Symbol) → IsInner s → Inner o → Inner (if bytes_eq bs word then Some s else o)
-word_or s bs word o d i = by (bytes_eq bs word)
-  where
-    by : (b : Bool) → Inner (if b then Some s else o)
-    by true = d
-    by false = i
-
-item_word-inner : (bs : List ℕ) → Inner (item_word bs)
-unfolding item_word
-item_word-inner bs =
-    word_or Define bs (codes "define") _ tt (word_or Originate bs (codes "originate") _ tt (word_or At bs (codes "at") _ tt
-    (word_or From bs (codes "from") _ tt (word_or True bs (codes "true") _ tt (word_or Le bs (codes "le") None tt tt)))))
-
-operator-inner : (bs : List ℕ) → Inner (operator bs)
-unfolding operator
-operator-inner bs = word_or Or bs (codes "or") _ tt (word_or And bs (codes "and") _ tt (word_or Not bs (codes "not") None tt tt))
-
-spelled-inner : (ws : List CallWord) (bs : List ℕ) → Inner (spelled_of ws bs)
-spelled-inner [] bs = tt
-spelled-inner (w ∷ ws) bs = word_or (Call w) bs (word_text w) (spelled_of ws bs) tt (spelled-inner ws bs)
-
-call_word-inner : (bs : List ℕ) → Inner (call_word bs)
-unfolding call_word
-call_word-inner bs = spelled-inner call_words bs
+word_inner : (w : Word) → IsInner (symbol_of_word w)
+word_inner word.Define = tt
+word_inner word.Originate = tt
+word_inner word.At = tt
+word_inner word.From = tt
+word_inner word.True = tt
+word_inner word.Le = tt
+word_inner word.Or = tt
+word_inner word.And = tt
+word_inner word.Not = tt
+word_inner (word.Call w) = tt
 
 word_symbol-inner : (bs : List ℕ) → IsInner (word_symbol bs)
 unfolding word_symbol
-word_symbol-inner bs = first (item_word bs) (operator bs) (call_word bs) (item_word-inner bs) (operator-inner bs) (call_word-inner bs)
+word_symbol-inner bs = by (word_named bs)
   where
-    or_else : Option Symbol → Symbol → Symbol
-    or_else (Some s) other = s
-    or_else None other = other
-
-    one : (o : Option Symbol) (s : Symbol) → Inner o → IsInner s → IsInner (or_else o s)
-    one (Some t) s i d = i
-    one None s i d = d
-
-    first : (a b c : Option Symbol) → Inner a → Inner b → Inner c → IsInner (or_else a (or_else b (or_else c Name)))
-    first a b c i j k = one a (or_else b (or_else c Name)) i (one b (or_else c Name) j (one c Name k tt))
+    by : (o : Option Word) → IsInner (unwrap_or (option_map symbol_of_word o) Name)
+    by (Some w) = word_inner w
+    by None = tt
 
 -- ---- no token stands for the end of the text
 

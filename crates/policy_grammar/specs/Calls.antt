@@ -6,9 +6,9 @@ use Rattle.policy_grammar.specs.declared.lexeme.Lexeme.{Lexeme}
 use Rattle.policy_grammar.specs.declared.symbol.Symbol.{Symbol}
 use Rattle.policy_grammar.specs.declared.symbol.Symbol.TheVariants as symbol
 use Rattle.policy_grammar.specs.Raw.{Arg, Arg as arg, RawCall, Step, Step as step}
-use Rattle.policy_base.specs.declared.call.SetCall.{SetCall}
-use Rattle.policy_base.specs.declared.call.CallWord.{CallWord}
-use Rattle.policy_base.specs.declared.call.CallWord.TheVariants.{Any, Drop, Internal, Link, Path, Of}
+use Rattle.policy_words.specs.declared.word.SetCall.{SetCall}
+use Rattle.policy_words.specs.declared.word.CallWord.{CallWord}
+use Rattle.policy_words.specs.declared.word.CallWord.TheVariants.{Any, Drop, Internal, Link, Path, Of}
 use Rattle.policy_grammar.specs.Reading.{Read, refused, past, first_of, after, either, chain}
 use Rattle.policy_grammar.specs.Names.{names_at, braced_at}
 

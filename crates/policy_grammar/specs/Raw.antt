@@ -1,7 +1,7 @@
 -- The items of a policy as the text has them, with the places of their tokens.
 use Rattle.std.specs.Prelude.{List, Option}
 use Rattle.net_base.specs.declared.place.Place.{Place}
-use Rattle.policy_base.specs.declared.call.CallWord.{CallWord}
+use Rattle.policy_words.specs.declared.word.CallWord.{CallWord}
 use Rattle.policy_grammar.specs.declared.lexeme.Lexeme.{Lexeme}
 
 -- a set that a call or a `from` names: all locations, or those of some names and groups

@@ -1,11 +1,13 @@
 -- What tokens stand for.
-use Rattle.std.specs.Prelude.{ℕ, ◌+◌, List, [], ◌∷◌, Option, Some, None, codes, if◌then◌else◌}
-use Rattle.std.specs.Str.{bytes_eq}
-use Rattle.policy_base.specs.declared.call.SetCall.{SetCall}
-use Rattle.policy_base.specs.declared.call.SetCall.TheVariants.{Avoid, Through, NoTransit, Start, End, Exit, Enter}
-use Rattle.policy_base.specs.declared.call.CallWord.{CallWord}
-use Rattle.policy_base.specs.declared.call.CallWord.TheVariants.{Any, Drop, Internal, Link, Path, Of}
-use Rattle.policy_base.specs.CallWords.{call_words, word_text}
+use Rattle.std.specs.Prelude.{ℕ, ◌+◌, List, option_map}
+use Rattle.std.specs.Option.{unwrap_or}
+use Rattle.policy_words.specs.declared.word.SetCall.{SetCall}
+use Rattle.policy_words.specs.declared.word.SetCall.TheVariants.{Avoid, Through, NoTransit, Start, End, Exit, Enter}
+use Rattle.policy_words.specs.declared.word.CallWord.{CallWord}
+use Rattle.policy_words.specs.declared.word.CallWord.TheVariants.{Any, Drop, Internal, Link, Path, Of}
+use Rattle.policy_words.specs.declared.word.Word.{Word}
+use Rattle.policy_words.specs.declared.word.Word.TheVariants as word
+use Rattle.policy_words.specs.Words.{word_named}
 use Rattle.policy_tokens.specs.declared.token.TokenKind.{TokenKind}
 use Rattle.policy_tokens.specs.declared.token.TokenKind.TheVariants as kind
 use Rattle.policy_grammar.specs.declared.symbol.Symbol.{Symbol}
@@ -54,41 +56,22 @@ number_of Semicolon = 19
 number_of (Call w) = 20 + call_number w
 number_of EndOfText = 255
 
--- the words that items begin with or have between their parts
-unfoldable pub item_word : List ℕ → Option Symbol
-item_word bs =
-    if bytes_eq bs (codes "define") then Some Define
-    else (if bytes_eq bs (codes "originate") then Some Originate
-    else (if bytes_eq bs (codes "at") then Some At
-    else (if bytes_eq bs (codes "from") then Some From
-    else (if bytes_eq bs (codes "true") then Some True
-    else (if bytes_eq bs (codes "le") then Some Le
-    else None)))))
+-- what a word of the language stands for
+abbrev pub symbol_of_word : Word → Symbol
+symbol_of_word word.Define = Define
+symbol_of_word word.Originate = Originate
+symbol_of_word word.At = At
+symbol_of_word word.From = From
+symbol_of_word word.True = True
+symbol_of_word word.Le = Le
+symbol_of_word word.Or = Or
+symbol_of_word word.And = And
+symbol_of_word word.Not = Not
+symbol_of_word (word.Call w) = Call w
 
--- the operators that are words
-unfoldable pub operator : List ℕ → Option Symbol
-operator bs =
-    if bytes_eq bs (codes "or") then Some Or
-    else (if bytes_eq bs (codes "and") then Some And
-    else (if bytes_eq bs (codes "not") then Some Not
-    else None))
-
--- the one of some words of calls that the bytes spell
-abbrev pub spelled_of : List CallWord → List ℕ → Option Symbol
-spelled_of [] bs = None
-spelled_of (w ∷ ws) bs = if bytes_eq bs (word_text w) then Some (Call w) else spelled_of ws bs
-
--- the words of calls
-unfoldable pub call_word : List ℕ → Option Symbol
-call_word bs = spelled_of call_words bs
-
-abbrev or_else : Option Symbol → Symbol → Symbol
-or_else (Some s) other = s
-or_else None other = other
-
--- a word of the language, and otherwise a name
+-- a word of the language stands for itself, and any other for a name
 unfoldable pub word_symbol : List ℕ → Symbol
-word_symbol bs = or_else (item_word bs) (or_else (operator bs) (or_else (call_word bs) Name))
+word_symbol bs = unwrap_or (option_map symbol_of_word (word_named bs)) Name
 
 -- what a token of this kind and these bytes stands for
 abbrev pub symbol_of : TokenKind → List ℕ → Symbol

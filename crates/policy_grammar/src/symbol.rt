@@ -1,10 +1,16 @@
 //! What a token stands for in the grammar.
-ghost use Rattle.std.specs.Prelude.{◌≡◌, ◌<◌, ◌∷◌};
-ghost use Rattle.std.specs.Str.{bytes_eq};
-ghost use Rattle.policy_grammar.specs.Symbols.{call_number as number_of_call, number_of, set_number as number_of_set, word_symbol as word, symbol_of as symbol};
+ghost use Rattle.std.specs.Prelude.{◌≡◌, ◌<◌};
+ghost use Rattle.policy_grammar.specs.Symbols.{
+  call_number as number_of_call,
+  number_of,
+  set_number as number_of_set,
+  symbol_of as symbol,
+  symbol_of_word,
+  word_symbol as spelled_symbol,
+};
 
-use policy_base::{CallWord, SetCall};
 use policy_tokens::TokenKind;
+use policy_words::{CallWord, SetCall, Word};
 
 /// What a token stands for in the grammar: a word of the language, a name, a figure or a sign. The words of calls
 /// are those of `CallWord`; `any` also stands for a set. The end of the text has a symbol of its own.
@@ -119,198 +125,32 @@ impl Symbol {
     }
 }
 
-// Whether the bytes spell the word. This goes letter by letter, so where the word is known the loop becomes a few comparisons.
-#[inline(always)]
-fn spells(bytes: &[u8], word: &str) -> bool
-    ensures { result ≡ bytes_eq bytes.now word.now }
+// What a word of the language stands for.
+fn word_symbol(word: Word) -> Symbol
+    ensures { result ≡ symbol_of_word word }
 {
-    let (mut rest, mut letters) = (bytes, word.as_bytes());
-    while let [letter, more @ ..] = letters {
-        let [first, behind @ ..] = rest else {
-            return false;
-        };
-        if *first != *letter {
-            return false;
-        }
-        rest = behind;
-        letters = more;
-    }
-    rest.is_empty()
-}
-
-// A word that begins with `a`, from its second byte on.
-#[tactic(auto, unfolding(crate::specs::Symbols::word_symbol, crate::specs::Symbols::item_word, crate::specs::Symbols::operator, crate::specs::Symbols::call_word))]
-fn a_word(rest: &[u8]) -> Symbol
-    ensures { result ≡ word (97 ∷ rest.now) }
-{
-    if spells(rest, "t") {
-        Symbol::At
-    } else if spells(rest, "nd") {
-        Symbol::And
-    } else if spells(rest, "ny") {
-        Symbol::Call(CallWord::Any)
-    } else if spells(rest, "void") {
-        Symbol::Call(CallWord::Of(SetCall::Avoid))
-    } else {
-        Symbol::Name
-    }
-}
-
-// A word that begins with `d`, from its second byte on.
-#[tactic(auto, unfolding(crate::specs::Symbols::word_symbol, crate::specs::Symbols::item_word, crate::specs::Symbols::operator, crate::specs::Symbols::call_word))]
-fn d_word(rest: &[u8]) -> Symbol
-    ensures { result ≡ word (100 ∷ rest.now) }
-{
-    if spells(rest, "efine") {
-        Symbol::Define
-    } else if spells(rest, "rop") {
-        Symbol::Call(CallWord::Drop)
-    } else {
-        Symbol::Name
-    }
-}
-
-// A word that begins with `e`, from its second byte on.
-#[tactic(auto, unfolding(crate::specs::Symbols::word_symbol, crate::specs::Symbols::item_word, crate::specs::Symbols::operator, crate::specs::Symbols::call_word))]
-fn e_word(rest: &[u8]) -> Symbol
-    ensures { result ≡ word (101 ∷ rest.now) }
-{
-    if spells(rest, "nd") {
-        Symbol::Call(CallWord::Of(SetCall::End))
-    } else if spells(rest, "xit") {
-        Symbol::Call(CallWord::Of(SetCall::Exit))
-    } else if spells(rest, "nter") {
-        Symbol::Call(CallWord::Of(SetCall::Enter))
-    } else {
-        Symbol::Name
-    }
-}
-
-// A word that begins with `l`, from its second byte on.
-#[tactic(auto, unfolding(crate::specs::Symbols::word_symbol, crate::specs::Symbols::item_word, crate::specs::Symbols::operator, crate::specs::Symbols::call_word))]
-fn l_word(rest: &[u8]) -> Symbol
-    ensures { result ≡ word (108 ∷ rest.now) }
-{
-    if spells(rest, "e") {
-        Symbol::Le
-    } else if spells(rest, "ink") {
-        Symbol::Call(CallWord::Link)
-    } else {
-        Symbol::Name
-    }
-}
-
-// A word that begins with `n`, from its second byte on.
-#[tactic(auto, unfolding(crate::specs::Symbols::word_symbol, crate::specs::Symbols::item_word, crate::specs::Symbols::operator, crate::specs::Symbols::call_word))]
-fn n_word(rest: &[u8]) -> Symbol
-    ensures { result ≡ word (110 ∷ rest.now) }
-{
-    if spells(rest, "ot") {
-        Symbol::Not
-    } else if spells(rest, "otransit") {
-        Symbol::Call(CallWord::Of(SetCall::NoTransit))
-    } else {
-        Symbol::Name
-    }
-}
-
-// A word that begins with `o`, from its second byte on.
-#[tactic(auto, unfolding(crate::specs::Symbols::word_symbol, crate::specs::Symbols::item_word, crate::specs::Symbols::operator, crate::specs::Symbols::call_word))]
-fn o_word(rest: &[u8]) -> Symbol
-    ensures { result ≡ word (111 ∷ rest.now) }
-{
-    if spells(rest, "riginate") {
-        Symbol::Originate
-    } else if spells(rest, "r") {
-        Symbol::Or
-    } else {
-        Symbol::Name
-    }
-}
-
-// A word that begins with `t`, from its second byte on.
-#[tactic(auto, unfolding(crate::specs::Symbols::word_symbol, crate::specs::Symbols::item_word, crate::specs::Symbols::operator, crate::specs::Symbols::call_word))]
-fn t_word(rest: &[u8]) -> Symbol
-    ensures { result ≡ word (116 ∷ rest.now) }
-{
-    if spells(rest, "rue") {
-        Symbol::True
-    } else if spells(rest, "hrough") {
-        Symbol::Call(CallWord::Of(SetCall::Through))
-    } else {
-        Symbol::Name
-    }
-}
-
-// A word that begins with `f`, from its second byte on.
-#[tactic(auto, unfolding(crate::specs::Symbols::word_symbol, crate::specs::Symbols::item_word, crate::specs::Symbols::operator, crate::specs::Symbols::call_word))]
-fn f_word(rest: &[u8]) -> Symbol
-    ensures { result ≡ word (102 ∷ rest.now) }
-{
-    if spells(rest, "rom") {
-        Symbol::From
-    } else {
-        Symbol::Name
-    }
-}
-
-// A word that begins with `i`, from its second byte on.
-#[tactic(auto, unfolding(crate::specs::Symbols::word_symbol, crate::specs::Symbols::item_word, crate::specs::Symbols::operator, crate::specs::Symbols::call_word))]
-fn i_word(rest: &[u8]) -> Symbol
-    ensures { result ≡ word (105 ∷ rest.now) }
-{
-    if spells(rest, "nternal") {
-        Symbol::Call(CallWord::Internal)
-    } else {
-        Symbol::Name
-    }
-}
-
-// A word that begins with `p`, from its second byte on.
-#[tactic(auto, unfolding(crate::specs::Symbols::word_symbol, crate::specs::Symbols::item_word, crate::specs::Symbols::operator, crate::specs::Symbols::call_word))]
-fn p_word(rest: &[u8]) -> Symbol
-    ensures { result ≡ word (112 ∷ rest.now) }
-{
-    if spells(rest, "ath") {
-        Symbol::Call(CallWord::Path)
-    } else {
-        Symbol::Name
-    }
-}
-
-// A word that begins with `s`, from its second byte on.
-#[tactic(auto, unfolding(crate::specs::Symbols::word_symbol, crate::specs::Symbols::item_word, crate::specs::Symbols::operator, crate::specs::Symbols::call_word))]
-fn s_word(rest: &[u8]) -> Symbol
-    ensures { result ≡ word (115 ∷ rest.now) }
-{
-    if spells(rest, "tart") {
-        Symbol::Call(CallWord::Of(SetCall::Start))
-    } else {
-        Symbol::Name
+    match word {
+        Word::Define => Symbol::Define,
+        Word::Originate => Symbol::Originate,
+        Word::At => Symbol::At,
+        Word::From => Symbol::From,
+        Word::True => Symbol::True,
+        Word::Le => Symbol::Le,
+        Word::Or => Symbol::Or,
+        Word::And => Symbol::And,
+        Word::Not => Symbol::Not,
+        Word::Call(call) => Symbol::Call(call),
     }
 }
 
 // A word of the language, or a name.
-#[tactic(auto, unfolding(crate::specs::Symbols::word_symbol, crate::specs::Symbols::item_word, crate::specs::Symbols::operator, crate::specs::Symbols::call_word))]
-fn word_symbol(bytes: &[u8]) -> Symbol
-    ensures { result ≡ word bytes.now }
+#[tactic(auto, unfolding(crate::specs::Symbols::word_symbol))]
+fn spelled(bytes: &[u8]) -> Symbol
+    ensures { result ≡ spelled_symbol bytes.now }
 {
-    let [first, rest @ ..] = bytes else {
-        return Symbol::Name;
-    };
-    match *first {
-        b'a' => a_word(rest),
-        b'd' => d_word(rest),
-        b'e' => e_word(rest),
-        b'f' => f_word(rest),
-        b'i' => i_word(rest),
-        b'l' => l_word(rest),
-        b'n' => n_word(rest),
-        b'o' => o_word(rest),
-        b'p' => p_word(rest),
-        b's' => s_word(rest),
-        b't' => t_word(rest),
-        _ => Symbol::Name,
+    match Word::named(bytes) {
+        Some(word) => word_symbol(word),
+        None => Symbol::Name,
     }
 }
 
@@ -319,7 +159,7 @@ pub(crate) fn symbol_of(kind: TokenKind, bytes: &[u8]) -> Symbol
     ensures { result ≡ symbol kind bytes.now }
 {
     match kind {
-        TokenKind::Word => word_symbol(bytes),
+        TokenKind::Word => spelled(bytes),
         TokenKind::Figure => Symbol::Figure,
         TokenKind::Arrow => Symbol::Arrow,
         TokenKind::Above => Symbol::Above,

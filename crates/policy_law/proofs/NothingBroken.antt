@@ -12,8 +12,8 @@ use Rattle.net_base.specs.declared.place.Place.{Place}
 use Rattle.net_base.specs.Prefixes.{PlainPrefix}
 use Rattle.net_base.specs.PrefixText.{prefix_spelled, length_number}
 use Rattle.net_base.specs.declared.prefix_text.PrefixFault.{PrefixFault}
-use Rattle.policy_base.specs.declared.call.CallWord.{CallWord}
-use Rattle.policy_base.specs.declared.call.CallWord.TheVariants as word
+use Rattle.policy_words.specs.declared.word.CallWord.{CallWord}
+use Rattle.policy_words.specs.declared.word.CallWord.TheVariants as word
 use Rattle.policy_tokens.specs.declared.fault.PolicyFault.{PolicyFault}
 use Rattle.policy_tokens.specs.declared.kind.Kind.{Kind}
 use Rattle.policy_tokens.specs.declared.kind.Kind.TheVariants as kind

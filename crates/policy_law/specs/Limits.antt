@@ -7,8 +7,8 @@ use Rattle.policy_tokens.specs.declared.kind.Kind.{Kind}
 use Rattle.policy_tokens.specs.declared.kind.Kind.TheVariants as kind
 use Rattle.policy_tokens.specs.declared.fault.PolicyFault.{PolicyFault}
 use Rattle.policy_tokens.specs.declared.fault.PolicyFault.TheVariants.{TooMany}
-use Rattle.policy_base.specs.declared.call.CallWord.{CallWord}
-use Rattle.policy_base.specs.declared.call.CallWord.TheVariants.{Path}
+use Rattle.policy_words.specs.declared.word.CallWord.{CallWord}
+use Rattle.policy_words.specs.declared.word.CallWord.TheVariants.{Path}
 use Rattle.policy_rules.specs.Counts.{capped}
 use Rattle.policy_base.specs.declared.policy.Origin.{Origin}
 use Rattle.net_base.specs.SetOperations.{size_of}

@@ -5,7 +5,7 @@ use Rattle.net_base.specs.declared.loc.LocSet.{LocSet}
 use Rattle.net_base.specs.Network.{PlainNet}
 use Rattle.net_base.specs.Prefixes.{PlainPrefix}
 use Rattle.net_base.specs.PrefixText.{prefix_spelled, length_number}
-use Rattle.policy_base.specs.declared.call.CallWord.TheVariants.{Path}
+use Rattle.policy_words.specs.declared.word.CallWord.TheVariants.{Path}
 use Rattle.policy_base.specs.Policies.{PlainPolicy, IsPolicy as IsLawful}
 use Rattle.policy_tokens.specs.declared.limits.TheConstants.{CALLS, DEFINITIONS, PLACES}
 use Rattle.policy_tokens.specs.declared.token.Token.{Token}

@@ -13,9 +13,9 @@ use Rattle.policy_tokens.specs.declared.fault.PolicyFault.{PolicyFault}
 use Rattle.policy_tokens.specs.declared.fault.PolicyFault.TheVariants.{NoMemory}
 use Rattle.net_base.specs.Gives.{GivesUnless}
 use Rattle.policy_tokens.specs.Places.{place_of}
-use Rattle.policy_base.specs.declared.call.SetCall.{SetCall}
-use Rattle.policy_base.specs.declared.call.CallWord.{CallWord}
-use Rattle.policy_base.specs.declared.call.CallWord.TheVariants as word
+use Rattle.policy_words.specs.declared.word.SetCall.{SetCall}
+use Rattle.policy_words.specs.declared.word.CallWord.{CallWord}
+use Rattle.policy_words.specs.declared.word.CallWord.TheVariants as word
 use Rattle.policy_grammar.specs.Raw.{RawStatement, Step, Step as step, Item}
 use Rattle.policy_grammar.specs.Raw.Item.{Define, Originate, State}
 use Rattle.policy_grammar.specs.Lexemes.{lexemes_of}

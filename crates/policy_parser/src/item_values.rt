@@ -19,12 +19,13 @@ ghost use Rattle.policy_values.specs.Reads.{over};
 use crate::group_items::{define, originate};
 use crate::values::{ItemRead, StatementRead};
 use net_base::{List, LocSet};
-use policy_base::{CallWord, FromSet, Statement};
+use policy_base::{FromSet, Statement};
 use policy_grammar::{Lexeme, Symbol, passed, past};
 use policy_rules::within;
 use policy_tokens::limits::CALLS;
 use policy_tokens::{Kind, PolicyFault};
 use policy_values::{Parts, PatternsRead, Reader, predicate};
+use policy_words::CallWord;
 
 // The sources that are named.
 fn named(set: Result<LocSet, PolicyFault>) -> Result<FromSet, PolicyFault>

@@ -8,9 +8,9 @@ use Rattle.net_base.specs.Network.{PlainNet, IsNet}
 use Rattle.net_base.specs.NetSets.{locations}
 use Rattle.net_base.proofs.StepLemmas.{bind_ok}
 use Rattle.policy_grammar.specs.Raw.{Arg, Arg as arg}
-use Rattle.policy_base.specs.declared.call.SetCall.{SetCall}
-use Rattle.policy_base.specs.declared.call.CallWord.{CallWord}
-use Rattle.policy_base.specs.declared.call.CallWord.TheVariants as word
+use Rattle.policy_words.specs.declared.word.SetCall.{SetCall}
+use Rattle.policy_words.specs.declared.word.CallWord.{CallWord}
+use Rattle.policy_words.specs.declared.word.CallWord.TheVariants as word
 use Rattle.policy_rules.specs.Counts.{word_places}
 use Rattle.policy_rules.specs.KnownNames.{Names}
 use Rattle.policy_base.specs.Policies.{Ranking, call, calls, prefer, either, both, negated}

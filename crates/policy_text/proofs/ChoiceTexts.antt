@@ -7,7 +7,7 @@ use Rattle.list_law.proofs.Changed.{map-map}
 use Rattle.net_base.specs.declared.loc.LocSet.{LocSet}
 use Rattle.net_base.specs.Network.{PlainNet}
 use Rattle.policy_base.specs.declared.call.Call.TheVariants.{Of}
-use Rattle.policy_base.specs.declared.call.SetCall.{SetCall}
+use Rattle.policy_words.specs.declared.word.SetCall.{SetCall}
 use Rattle.policy_base.specs.declared.ranked.Ranked.{Ranked, Calls, Prefer, And}
 use Rattle.policy_base.specs.Policies.{Ranking, call, both, ranking_of}
 use Rattle.policy_base.proofs.RankingViews.{ranking_of-And, ranking_of-Calls, ranking_of-Prefer}

@@ -14,7 +14,8 @@ use Rattle.policy_grammar.specs.declared.symbol.Symbol.{Symbol}
 use Rattle.policy_grammar.specs.declared.symbol.Symbol.TheVariants as symbol
 use Rattle.policy_base.specs.declared.call.Call.{Call}
 use Rattle.policy_base.specs.declared.call.Call.TheVariants.{Any, Drop, Internal, Link, Path, Of}
-use Rattle.policy_base.specs.CallWords.{word_of, word_text}
+use Rattle.policy_words.specs.Words.{word_text}
+use Rattle.policy_base.specs.CallWords.{word_of}
 use Rattle.policy_base.specs.declared.policy.FromSet.{FromSet}
 use Rattle.policy_base.specs.declared.policy.FromSet.TheVariants as from_set
 use Rattle.policy_base.specs.declared.policy.Origin.{Origin}

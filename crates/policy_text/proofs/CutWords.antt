@@ -1,21 +1,24 @@
 -- Parts of a text, and the words that they are cut into.
 use Rattle.std.proofs.Common.{◌≡◌, ℕ, List, [], ◌∷◌, ◌++◌, length, Bool, true, false, Some, None, refl, arith, append_assoc}
-use Rattle.std.specs.Prelude.{◌&&◌, ◌||◌, ◌==◌, not, codes, nat_le, slice_index, if◌then◌else◌}
+use Rattle.std.specs.Prelude.{◌&&◌, ◌||◌, ◌==◌, not, codes, nat_le, slice_index, Option, option_map, is_none, if◌then◌else◌}
+use Rattle.std.specs.Option.{unwrap_or}
 use Rattle.std.specs.List.{list_all, list_any, flat_map, AllByRecursion}
 use Rattle.std.specs.Str.{bytes_eq}
 use Rattle.std.proofs.lemmas.Bool.{and_parts, or_parts, not-true}
-use Rattle.net_base.specs.NameRule.{is_letter, is_name_byte, is_name, is_reserved, is_item_word, is_operator, is_path_call, is_place_call}
+use Rattle.net_base.specs.NameRule.{is_letter, is_name_byte, is_name}
 use Rattle.net_base.specs.Addresses.{is_figure}
 use Rattle.policy_tokens.specs.declared.token.TokenKind.TheVariants as kind
 use Rattle.policy_tokens.specs.Tokens.{is_figure_byte}
 use Rattle.policy_grammar.specs.declared.symbol.Symbol.{Symbol}
 use Rattle.policy_grammar.specs.declared.symbol.Symbol.TheVariants as symbol
-use Rattle.policy_base.specs.declared.call.CallWord.TheVariants as word
-use Rattle.policy_base.specs.declared.call.SetCall.TheVariants as set_call
-use Rattle.policy_grammar.specs.Symbols.{symbol_of, word_symbol, item_word, operator, spelled_of, call_word}
+use Rattle.policy_words.specs.declared.word.Word.{Word as Spelled}
+use Rattle.policy_words.specs.declared.word.CallWord.TheVariants as word
+use Rattle.policy_words.specs.declared.word.SetCall.TheVariants as set_call
+use Rattle.policy_grammar.specs.Symbols.{symbol_of, symbol_of_word, word_symbol}
 use Rattle.policy_base.specs.declared.call.Call.{Call}
-use Rattle.policy_base.specs.declared.call.CallWord.{CallWord}
-use Rattle.policy_base.specs.CallWords.{call_words, word_of, word_text}
+use Rattle.policy_words.specs.declared.word.CallWord.{CallWord}
+use Rattle.policy_words.specs.Words.{word_named, word_text}
+use Rattle.policy_base.specs.CallWords.{word_of}
 use Rattle.policy_text.proofs.Words.{Word, sign, name, figure, call_symbol}
 use Rattle.policy_text.proofs.Cuts.{IsCut, IsCut-token, IsCut-blank, AreAscii, Stands}
 use Rattle.policy_text.proofs.Pieces.{is_free, is_word, BeginsWith-word, BeginsWith-figure, BeginsWith-sign, BeginsWith-arrow, BeginsWith-above, BeginsBlank-space, BeginsBlank-line, name_byte_ascii}
@@ -88,68 +91,24 @@ pub CutsBefore-figure : (b : ℕ) (bs : List ℕ) → is_figure b ≡ true → l
 CutsBefore-figure b bs digit all ascii =
     record { cut = λ t ws free rest. IsCut-token kind.Figure b bs t (figure (b ∷ bs)) ws (BeginsWith-figure b bs t free digit all) ascii (refl, refl) rest }
 
-six : (a b c d e f : Bool) (u v w x y z : Symbol) → (a || (b || (c || (d || (e || (f || false)))))) ≡ false
-    → (if a then Some u else (if b then Some v else (if c then Some w else (if d then Some x else (if e then Some y else (if f then Some z else None)))))) ≡ None
-six true b c d e f u v w x y z h = absurd cc
-six false true c d e f u v w x y z h = absurd cc
-six false false true d e f u v w x y z h = absurd cc
-six false false false true e f u v w x y z h = absurd cc
-six false false false false true f u v w x y z h = absurd cc
-six false false false false false true u v w x y z h = absurd cc
-six false false false false false false u v w x y z h = refl
-
-three : (a b c : Bool) (u v w : Symbol) → (a || (b || (c || false))) ≡ false → (if a then Some u else (if b then Some v else (if c then Some w else None))) ≡ None
-three true b c u v w h = absurd cc
-three false true c u v w h = absurd cc
-three false false true u v w h = absurd cc
-three false false false u v w h = refl
-
-no_item_word : (bs : List ℕ) → is_item_word bs ≡ false → item_word bs ≡ None
-unfolding is_item_word item_word
-no_item_word bs h =
-    six (bytes_eq bs (codes "define")) (bytes_eq bs (codes "originate")) (bytes_eq bs (codes "at")) (bytes_eq bs (codes "from"))
-    (bytes_eq bs (codes "true")) (bytes_eq bs (codes "le")) symbol.Define symbol.Originate symbol.At symbol.From symbol.True symbol.Le h
-
-no_operator : (bs : List ℕ) → is_operator bs ≡ false → operator bs ≡ None
-unfolding is_operator operator
-no_operator bs h = three (bytes_eq bs (codes "or")) (bytes_eq bs (codes "and")) (bytes_eq bs (codes "not")) symbol.Or symbol.And symbol.Not h
-
--- none of the words
-abbrev AreOthers : List ℕ → List (List ℕ) → Type 0
-AreOthers bs words = AllByRecursion (λ w. bytes_eq bs w ≡ false) words
-
-none_of : (bs : List ℕ) (words : List (List ℕ)) → list_any (bytes_eq bs) words ≡ false → AreOthers bs words
-none_of bs [] h = tt
-none_of bs (w ∷ ws) h = let p = or_parts (bytes_eq bs w) (list_any (bytes_eq bs) ws) h in (p.0, none_of bs ws p.1)
-
-none_spelled : (ws : List CallWord) (bs : List ℕ) → AllByRecursion (λ w. bytes_eq bs (word_text w) ≡ false) ws → spelled_of ws bs ≡ None
-none_spelled [] bs h = refl
-none_spelled (w ∷ ws) bs h = rw h.0 (none_spelled ws bs h.1)
-
-no_call_word : (bs : List ℕ) → is_path_call bs ≡ false → is_place_call bs ≡ false → call_word bs ≡ None
-unfolding is_path_call is_place_call call_word
-no_call_word bs h k =
-    let p = none_of bs (codes "any" ∷ codes "drop" ∷ codes "internal" ∷ codes "avoid" ∷ codes "through" ∷ codes "notransit" ∷ []) h in
-    let q = none_of bs (codes "start" ∷ codes "end" ∷ codes "link" ∷ codes "path" ∷ codes "exit" ∷ codes "enter" ∷ []) k in
-    none_spelled call_words bs (p.0, (p.1.0, (p.1.1.0, (q.1.1.0, (q.1.1.1.0, (p.1.1.1.0, (p.1.1.1.1.0, (p.1.1.1.1.1.0, (q.0, (q.1.0, (q.1.1.1.1.0, (q.1.1.1.1.1.0, tt))))))))))))
-
-unreserved : (bs : List ℕ) → is_reserved bs ≡ false → word_symbol bs ≡ symbol.Name
-unfolding is_reserved word_symbol
-unreserved bs h =
-    let a = or_parts (is_item_word bs || is_operator bs || is_path_call bs) (is_place_call bs) h in
-    let b = or_parts (is_item_word bs || is_operator bs) (is_path_call bs) a.0 in
-    let c = or_parts (is_item_word bs) (is_operator bs) b.0 in
-    rw (no_item_word bs c.0, no_operator bs c.1, no_call_word bs b.1 a.1) refl
+-- what is no word of the language stands for a name
+unreserved : (bs : List ℕ) → is_none (word_named bs) ≡ true → word_symbol bs ≡ symbol.Name
+unfolding word_symbol
+unreserved bs = by (word_named bs)
+  where
+    by : (o : Option Spelled) → is_none o ≡ true → unwrap_or (option_map symbol_of_word o) symbol.Name ≡ symbol.Name
+    by (Some w) h = absurd cc
+    by None h = refl
 
 -- a name
 pub CutsBefore-name : (n : List ℕ) → is_name n ≡ true → CutsBefore n (name n ∷ [])
 unfolding is_name
 CutsBefore-name n h =
-    let e = and_parts (not (length n == 0) && nat_le (length n) 32 && is_letter (slice_index n 0) && list_all is_name_byte n) (not (is_reserved n)) h in
+    let e = and_parts (not (length n == 0) && nat_le (length n) 32 && is_letter (slice_index n 0) && list_all is_name_byte n) (is_none (word_named n)) h in
     let d = and_parts (not (length n == 0) && nat_le (length n) 32 && is_letter (slice_index n 0)) (list_all is_name_byte n) e.0 in
     let c = and_parts (not (length n == 0) && nat_le (length n) 32) (is_letter (slice_index n 0)) d.0 in
     let b = and_parts (not (length n == 0)) (nat_le (length n) 32) c.0 in
-    CutsBefore-word n (name n) (rw (b.0, b.1, c.1, d.1) refl) (unreserved n (not-true (is_reserved n) e.1), refl)
+    CutsBefore-word n (name n) (rw (b.0, b.1, c.1, d.1) refl) (unreserved n e.1, refl)
 
 -- a word of the language
 keyword : (w : List ℕ) (s : Symbol) → is_word w ≡ true → symbol_of kind.Word w ≡ s → CutsBefore w (sign s ∷ [])
@@ -230,40 +189,40 @@ pub Cuts-above : Cuts (codes " >> ") (sign symbol.Above ∷ [])
 Cuts-above = blank (in_turn above space)
 
 pub Cuts-or : Cuts (codes " or ") (sign symbol.Or ∷ [])
-unfolding word_symbol item_word operator
+unfolding word_symbol word_named
 Cuts-or = blank (then_blank (keyword (codes "or") symbol.Or refl refl))
 
 pub Cuts-and : Cuts (codes " and ") (sign symbol.And ∷ [])
-unfolding word_symbol item_word operator
+unfolding word_symbol word_named
 Cuts-and = blank (then_blank (keyword (codes "and") symbol.And refl refl))
 
 pub Cuts-not : Cuts (codes "not ") (sign symbol.Not ∷ [])
-unfolding word_symbol item_word operator
+unfolding word_symbol word_named
 Cuts-not = then_blank (keyword (codes "not") symbol.Not refl refl)
 
 pub Cuts-le : Cuts (codes " le ") (sign symbol.Le ∷ [])
-unfolding word_symbol item_word operator
+unfolding word_symbol word_named
 Cuts-le = blank (then_blank (keyword (codes "le") symbol.Le refl refl))
 
 pub Cuts-at : Cuts (codes " at ") (sign symbol.At ∷ [])
-unfolding word_symbol item_word operator
+unfolding word_symbol word_named
 Cuts-at = blank (then_blank (keyword (codes "at") symbol.At refl refl))
 
 pub Cuts-from : Cuts (codes " from ") (sign symbol.From ∷ [])
-unfolding word_symbol item_word operator
+unfolding word_symbol word_named
 Cuts-from = blank (then_blank (keyword (codes "from") symbol.From refl refl))
 
 pub Cuts-originate : Cuts (codes "originate ") (sign symbol.Originate ∷ [])
-unfolding word_symbol item_word operator
+unfolding word_symbol word_named
 Cuts-originate = then_blank (keyword (codes "originate") symbol.Originate refl refl)
 
 pub CutsBefore-true : CutsBefore (codes "true") (sign symbol.True ∷ [])
-unfolding word_symbol item_word
+unfolding word_symbol word_named
 CutsBefore-true = keyword (codes "true") symbol.True refl refl
 
 -- the word of a call
 word-cut : (w : CallWord) → CutsBefore (word_text w) (sign (symbol.Call w) ∷ [])
-unfolding word_symbol item_word operator call_word
+unfolding word_symbol word_named
 word-cut word.Any = keyword (codes "any") (symbol.Call word.Any) refl refl
 word-cut word.Drop = keyword (codes "drop") (symbol.Call word.Drop) refl refl
 word-cut word.Internal = keyword (codes "internal") (symbol.Call word.Internal) refl refl

@@ -7,9 +7,9 @@ use Rattle.net_base.specs.Network.{PlainNet}
 use Rattle.policy_grammar.specs.declared.lexeme.Lexeme.{Lexeme}
 use Rattle.policy_grammar.specs.declared.symbol.Symbol.TheVariants as symbol
 use Rattle.policy_grammar.specs.Raw.{Arg, RawCall}
-use Rattle.policy_base.specs.declared.call.SetCall.{SetCall}
-use Rattle.policy_base.specs.declared.call.CallWord.{CallWord}
-use Rattle.policy_base.specs.declared.call.CallWord.TheVariants as word
+use Rattle.policy_words.specs.declared.word.SetCall.{SetCall}
+use Rattle.policy_words.specs.declared.word.CallWord.{CallWord}
+use Rattle.policy_words.specs.declared.word.CallWord.TheVariants as word
 use Rattle.policy_grammar.specs.Reading.{Read}
 use Rattle.policy_grammar.specs.Calls.{set_at, one_at, above_at, sets_call, link_call, path_call, call_behind, call_at}
 use Rattle.policy_base.specs.declared.call.Call.{Call}

@@ -9,7 +9,7 @@ use Rattle.policy_tokens.specs.Places.{place_of}
 use Rattle.policy_grammar.specs.declared.lexeme.Lexeme.{Lexeme}
 use Rattle.policy_grammar.specs.declared.symbol.Symbol.{Symbol}
 use Rattle.policy_grammar.specs.declared.symbol.Symbol.TheVariants as symbol
-use Rattle.policy_base.specs.declared.call.CallWord.TheVariants as word
+use Rattle.policy_words.specs.declared.word.CallWord.TheVariants as word
 use Rattle.policy_grammar.specs.Raw.{Arg, RawCall, RawPattern, Step, Step as step, Item}
 use Rattle.policy_grammar.specs.Deep.{open_behind, is_too_deep, first_deep}
 use Rattle.policy_grammar.specs.Lexemes.{end_of}

@@ -9,7 +9,7 @@ use Rattle.net_base.specs.Network.{PlainNet}
 use Rattle.net_base.specs.Prefixes.{PlainPattern}
 use Rattle.policy_grammar.specs.declared.lexeme.Lexeme.{Lexeme}
 use Rattle.policy_grammar.specs.declared.symbol.Symbol.TheVariants as symbol
-use Rattle.policy_base.specs.declared.call.CallWord.TheVariants as word
+use Rattle.policy_words.specs.declared.word.CallWord.TheVariants as word
 use Rattle.policy_grammar.specs.Raw.{Arg, Arg as arg, RawPattern, RawStatement, Item, Step}
 use Rattle.policy_grammar.specs.Raw.RawPattern.{All, Only, UpTo}
 use Rattle.policy_grammar.specs.Raw.Item.{Originate, State}

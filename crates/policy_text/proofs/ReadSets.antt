@@ -5,7 +5,7 @@ use Rattle.std.specs.List.{AllByRecursion}
 use Rattle.net_base.specs.Network.{PlainNet}
 use Rattle.policy_grammar.specs.declared.lexeme.Lexeme.{Lexeme}
 use Rattle.policy_grammar.specs.declared.symbol.Symbol.TheVariants as symbol
-use Rattle.policy_base.specs.declared.call.CallWord.TheVariants as word
+use Rattle.policy_words.specs.declared.word.CallWord.TheVariants as word
 use Rattle.policy_grammar.specs.Raw.{Arg, Arg as arg}
 use Rattle.policy_grammar.specs.Reading.{first_of}
 use Rattle.policy_grammar.specs.Names.{names_at, braced_at}

@@ -4,9 +4,9 @@ use Rattle.std.specs.Prelude.{codes}
 use Rattle.std.specs.List.{AllByRecursion}
 use Rattle.net_base.specs.declared.loc.LocSet.{LocSet}
 use Rattle.net_base.specs.Network.{PlainNet}
-use Rattle.policy_base.specs.declared.call.SetCall.{SetCall}
+use Rattle.policy_words.specs.declared.word.SetCall.{SetCall}
 use Rattle.policy_base.specs.declared.call.Call.TheVariants.{Of}
-use Rattle.policy_base.specs.CallWords.{set_word}
+use Rattle.policy_words.specs.Words.{set_word}
 use Rattle.policy_text.specs.PolicyText.{calls_text, names_in, next_set, next_sets, set_text}
 use Rattle.policy_text.specs.Values.{HaveLocSets, IsLocSet}
 

@@ -12,7 +12,7 @@ use Rattle.policy_grammar.specs.declared.symbol.Symbol.TheVariants as symbol
 use Rattle.policy_rules.specs.Checks.{text}
 use Rattle.policy_base.specs.declared.call.Call.{Call}
 use Rattle.policy_base.specs.declared.call.Call.TheVariants.{Any, Drop, Internal, Link, Path, Of}
-use Rattle.policy_base.specs.declared.call.CallWord.TheVariants as word
+use Rattle.policy_words.specs.declared.word.CallWord.TheVariants as word
 use Rattle.policy_base.specs.CallWords.{word_of}
 use Rattle.policy_base.specs.declared.policy.FromSet.{FromSet}
 use Rattle.policy_base.specs.declared.policy.FromSet.TheVariants as from_set

@@ -9,7 +9,8 @@ use Rattle.net_base.specs.Sets.{holds}
 use Rattle.text_parts.specs.Texts.{prefix_text, pattern_text}
 use Rattle.policy_base.specs.declared.call.Call.{Call}
 use Rattle.policy_base.specs.declared.call.Call.TheVariants.{Any, Drop, Internal, Link, Path, Of}
-use Rattle.policy_base.specs.CallWords.{word_of, word_text}
+use Rattle.policy_words.specs.Words.{word_text}
+use Rattle.policy_base.specs.CallWords.{word_of}
 use Rattle.policy_base.specs.declared.policy.FromSet.{FromSet}
 use Rattle.policy_base.specs.declared.policy.FromSet.TheVariants as from_set
 use Rattle.policy_base.specs.declared.policy.Origin.{Origin}

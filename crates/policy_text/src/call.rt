@@ -8,7 +8,8 @@ ghost use Rattle.policy_text.specs.Values.{HaveLocSets, IsLocSet, sets_in};
 use crate::names::{push_places, push_set};
 use input_output::NoMemory;
 use net_base::{LocSet, Net};
-use policy_base::{Call, SetCall};
+use policy_base::Call;
+use policy_words::SetCall;
 use std::alloc::Global;
 use text_parts::push_bytes;
 

@@ -16,7 +16,8 @@ use crate::call::push_call;
 use crate::ranked::{AND, NOT, PREFER, push_closing, push_opening, push_ranked};
 use input_output::NoMemory;
 use net_base::{List, LocSet, Net};
-use policy_base::{Call, Ranked, SetCall};
+use policy_base::{Call, Ranked};
+use policy_words::SetCall;
 use std::alloc::Global;
 use text_parts::{push_bytes, push_number};
 

@@ -14,7 +14,7 @@ use Rattle.policy_base.specs.Policies.{Ranking, call}
 use Rattle.policy_tokens.specs.declared.fault.PolicyFault.{PolicyFault}
 use Rattle.policy_tokens.specs.declared.fault.PolicyFault.TheVariants.{TooMany}
 use Rattle.policy_grammar.specs.Raw.{Arg}
-use Rattle.policy_base.specs.declared.call.CallWord.TheVariants as word
+use Rattle.policy_words.specs.declared.word.CallWord.TheVariants as word
 use Rattle.policy_rules.specs.KnownNames.{Names}
 use Rattle.policy_rules.specs.Checks.{each, arg_known}
 use Rattle.policy_rules.specs.Counts.{within}

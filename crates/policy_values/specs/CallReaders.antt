@@ -6,7 +6,7 @@ use Rattle.policy_tokens.specs.declared.kind.Kind.TheVariants as kind
 use Rattle.net_base.specs.declared.place.Place.{Place}
 use Rattle.net_base.specs.Network.{PlainNet}
 use Rattle.net_base.specs.Steps.{◌>>=◌}
-use Rattle.policy_base.specs.declared.call.SetCall.{SetCall}
+use Rattle.policy_words.specs.declared.word.SetCall.{SetCall}
 use Rattle.policy_base.specs.declared.call.Call.{Call}
 use Rattle.policy_base.specs.declared.call.Call.TheVariants.{Any, Drop, Internal, Link, Path}
 use Rattle.policy_base.specs.Policies.{Ranking, call}
@@ -14,8 +14,8 @@ use Rattle.policy_tokens.specs.declared.fault.PolicyFault.{PolicyFault}
 use Rattle.policy_grammar.specs.declared.lexeme.Lexeme.{Lexeme}
 use Rattle.policy_grammar.specs.declared.symbol.Symbol.{Symbol}
 use Rattle.policy_grammar.specs.declared.symbol.Symbol.TheVariants as symbol
-use Rattle.policy_base.specs.declared.call.CallWord.{CallWord}
-use Rattle.policy_base.specs.declared.call.CallWord.TheVariants as word
+use Rattle.policy_words.specs.declared.word.CallWord.{CallWord}
+use Rattle.policy_words.specs.declared.word.CallWord.TheVariants as word
 use Rattle.policy_grammar.specs.Reading.{Read, after, chain}
 use Rattle.policy_grammar.specs.Calls.{set_at, one_at, above_at}
 use Rattle.policy_rules.specs.KnownNames.{Names}

@@ -12,9 +12,10 @@ ghost use Rattle.policy_values.specs.Parts.{parts_value, step_onto};
 use crate::parts::Parts;
 use crate::reader::Reader;
 use net_base::Place;
-use policy_base::{Call, CallWord, Ranked};
+use policy_base::{Call, Ranked};
 use policy_grammar::{Lexeme, Symbol, advance, refused};
 use policy_tokens::PolicyFault;
+use policy_words::CallWord;
 
 /// A call that is a word alone.
 #[derive(Clone, Copy)]

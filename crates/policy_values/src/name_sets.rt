@@ -14,10 +14,10 @@ ghost use Rattle.policy_values.specs.Reads.{over};
 
 use crate::reader::Reader;
 use net_base::LocSet;
-use policy_base::CallWord;
 use policy_grammar::{Lexeme, Symbol, begins, first, passed, past};
 use policy_rules::set_at;
 use policy_tokens::PolicyFault;
+use policy_words::CallWord;
 
 impl Reader<'_> {
     /// The locations of one name more. The first name that is unknown stays the answer.

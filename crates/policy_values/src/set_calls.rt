@@ -16,9 +16,10 @@ use crate::call_values::CallRead;
 use crate::parts::Parts;
 use crate::reader::Reader;
 use net_base::{List, LocSet, Place};
-use policy_base::{Call, Ranked, SetCall};
+use policy_base::{Call, Ranked};
 use policy_grammar::{Lexeme, Symbol, begins, passed, past};
 use policy_tokens::PolicyFault;
+use policy_words::SetCall;
 use std::alloc::Global;
 
 /// The ranked sets of a call that were read so far.

@@ -7,19 +7,20 @@ use Rattle.std.specs.Str.{bytes_eq}
 use Rattle.std.proofs.lemmas.Fmt.{decimal_injective}
 use Rattle.std.proofs.lemmas.Slice.Eq.{bytes_eq-Decides}
 use Rattle.net_base.specs.Locations.{numbers_below}
-use Rattle.net_base.specs.NameRule.{is_name, is_reserved, is_item_word, is_operator, is_path_call, is_place_call}
+use Rattle.policy_words.specs.Words.{word_named}
+use Rattle.net_base.specs.NameRule.{is_name}
 use Rattle.sample_network.proofs.Below.{tested_below}
 
 leaf_names : list_all (λ k. is_name (codes "L" ++ decimal (k + 1))) (numbers_below 96) ≡ true
-unfolding is_name is_reserved is_item_word is_operator is_path_call is_place_call digits
+unfolding is_name word_named digits
 leaf_names = refl
 
 spine_names : list_all (λ k. is_name (codes "S" ++ decimal (k + 1))) (numbers_below 4) ≡ true
-unfolding is_name is_reserved is_item_word is_operator is_path_call is_place_call digits
+unfolding is_name word_named digits
 spine_names = refl
 
 peer_names : list_all (λ k. is_name (codes "W" ++ decimal (k + 1))) (numbers_below 2) ≡ true
-unfolding is_name is_reserved is_item_word is_operator is_path_call is_place_call digits
+unfolding is_name word_named digits
 peer_names = refl
 
 pub leaf_named : (k : ℕ) → k < 96 → IsTrue (is_name (codes "L" ++ decimal (k + 1)))

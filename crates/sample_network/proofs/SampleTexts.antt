@@ -14,7 +14,7 @@ use Rattle.net_base.specs.Network.{sites}
 use Rattle.net_base.specs.Prefixes.{PlainPattern, PlainPrefix}
 use Rattle.net_base.specs.Sets.{holds}
 use Rattle.net_base.proofs.NumbersBelow.{length-numbers_below}
-use Rattle.policy_base.specs.declared.call.SetCall.TheVariants.{Exit, NoTransit}
+use Rattle.policy_words.specs.declared.word.SetCall.TheVariants.{Exit, NoTransit}
 use Rattle.policy_base.specs.declared.call.Call.TheVariants.{Of}
 use Rattle.policy_base.specs.declared.policy.Origin.{Origin}
 use Rattle.policy_text.specs.PolicyText.{are_all, call_text, calls_text, joined_names, names_from, names_in, next_name, is_everything, next_pattern, origin_line}

@@ -6,7 +6,7 @@ use Rattle.net_base.specs.Locations.{numbers_below}
 use Rattle.net_base.specs.Prefixes.{PlainPrefix, PlainPattern, only}
 use Rattle.net_base.specs.SetOperations.{no_location, with_location}
 use Rattle.net_base.specs.Sets.{set_of}
-use Rattle.policy_base.specs.declared.call.SetCall.TheVariants.{NoTransit, Exit}
+use Rattle.policy_words.specs.declared.word.SetCall.TheVariants.{NoTransit, Exit}
 use Rattle.policy_base.specs.declared.call.Call.TheVariants.{Of}
 use Rattle.policy_base.specs.declared.policy.FromSet.TheVariants as from_set
 use Rattle.policy_base.specs.declared.policy.Origin.{Origin}

@@ -19,7 +19,8 @@ ghost use Rattle.sample_network.specs.SamplePolicy.{
 use crate::network::{SPINES, address};
 use input_output::NoMemory;
 use net_base::{List, Loc, LocSet, Pattern, Prefix};
-use policy_base::{Call, FromSet, Origin, Policy, Ranked, SetCall, Statement};
+use policy_base::{Call, FromSet, Origin, Policy, Ranked, Statement};
+use policy_words::SetCall;
 use std::alloc::Global;
 
 // The prefix of a leaf.

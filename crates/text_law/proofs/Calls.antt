@@ -2,7 +2,7 @@
 use Rattle.std.proofs.Common.{List, [], ◌∷◌, ◌++◌, map, None, sym, subst, append_assoc}
 use Rattle.std.specs.List.{AllByRecursion}
 use Rattle.net_base.specs.Network.{PlainNet}
-use Rattle.policy_base.specs.declared.call.CallWord.TheVariants.{Path}
+use Rattle.policy_words.specs.declared.word.CallWord.TheVariants.{Path}
 use Rattle.policy_base.specs.Policies.{Ranking}
 use Rattle.policy_grammar.specs.declared.lexeme.Lexeme.{Lexeme}
 use Rattle.policy_grammar.specs.declared.symbol.Symbol.TheVariants as symbol

@@ -4,7 +4,7 @@ use Rattle.net_base.specs.declared.loc.LocSet.{LocSet}
 use Rattle.net_base.specs.Network.{PlainNet}
 use Rattle.net_base.specs.SetOperations.{no_location}
 use Rattle.policy_base.specs.declared.call.Call.TheVariants as calls
-use Rattle.policy_base.specs.declared.call.CallWord.TheVariants.{Any, Drop, Internal, Link, Path, Of}
+use Rattle.policy_words.specs.declared.word.CallWord.TheVariants.{Any, Drop, Internal, Link, Path, Of}
 use Rattle.policy_base.specs.Policies.{Ranking, call as one_call}
 use Rattle.policy_grammar.specs.declared.lexeme.Lexeme.{Lexeme}
 use Rattle.policy_grammar.specs.declared.symbol.Symbol.{Symbol}

@@ -10,9 +10,9 @@ use Rattle.net_base.specs.NetSets.{locations}
 use Rattle.net_base.specs.Prefixes.{PlainPrefix, IsPrefix, PlainPattern, only}
 use Rattle.net_base.specs.SetOperations.{no_location, union_of}
 use Rattle.text_parts.specs.Texts.{prefix_text}
-use Rattle.policy_base.specs.declared.call.SetCall.{SetCall}
+use Rattle.policy_words.specs.declared.word.SetCall.{SetCall}
 use Rattle.policy_base.specs.declared.call.Call.TheVariants as calls
-use Rattle.policy_base.specs.declared.call.CallWord.TheVariants.{Any, Drop, Internal, Link, Path, Of}
+use Rattle.policy_words.specs.declared.word.CallWord.TheVariants.{Any, Drop, Internal, Link, Path, Of}
 use Rattle.policy_base.specs.declared.policy.FromSet.{FromSet}
 use Rattle.policy_base.specs.declared.policy.FromSet.TheVariants as from_set
 use Rattle.policy_base.specs.declared.policy.Origin.{Origin}
