@@ -1,8 +1,8 @@
 -- The table of first nodes, node by node.
-use Rattle.std.proofs.Common.{◌≡◌, ℕ, suc, ◌+◌, ◌<◌, ◌≤◌, true, false, eqb, List, length, get_or, set, replicate, Option, Some, None, refl, arith, sym, ap, ap₂, subst, ◌∙◌, inl, inr}
+use Rattle.std.proofs.Common.{◌≡◌, ℕ, suc, ◌+◌, ◌<◌, ◌≤◌, true, false, eqb, List, length, get_or, set, Option, Some, None, refl, arith, sym, ap, ap₂, subst, ◌∙◌, inl, inr}
 use Rattle.std.specs.Option.{is_some, is_none}
 use Rattle.std.proofs.lemmas.Bool.{and_from, cases_eq, eq-eqb, ne_eqb, true≢false}
-use Rattle.std.proofs.lemmas.List.{get_or-replicate, get_or_read, get_or-set_other, length-replicate, length-set}
+use Rattle.std.proofs.lemmas.List.{get_or_read, get_or-set_other, length-set}
 use Rattle.std.proofs.lemmas.Grind.{get_or-set_at}
 use Rattle.net_base.specs.declared.loc.LocSet.{LocSet}
 use Rattle.net_base.specs.Sets.{holds}
@@ -19,12 +19,6 @@ use Rattle.case_core.proofs.Least.{least_found}
 use Rattle.graph_base.specs.Least.{least_below, or_else}
 use Rattle.case_core.specs.Firsts.{AreFirsts, firsts_below, has_both, lacks_path, is_ranked_at, is_unranked_at, no_firsts, row}
 
-pub no_rows : (routers : ℕ) (g : PlainGraph) → AreFirsts routers g 0 (replicate routers no_firsts)
-no_rows routers g = record {
-  size = length-replicate routers no_firsts;
-  rows = λ r lt. get_or-replicate routers r no_firsts no_firsts lt;
-}
-
 -- a row with one more node
 abbrev pub row_with : Firsts → Node → ℕ → Firsts
 row_with firsts node n = record { ranked = or_else firsts.ranked (is_some node.rank) n; unranked = or_else firsts.unranked (is_none node.rank) n }
@@ -32,9 +26,6 @@ row_with firsts node n = record { ranked = or_else firsts.ranked (is_some node.r
 or_else-no : (o : Option ℕ) (n : ℕ) → or_else o false n ≡ o
 or_else-no None n = refl
 or_else-no (Some m) n = refl
-
-firsts_is : (a b : Firsts) → a.ranked ≡ b.ranked → a.unranked ≡ b.unranked → a ≡ b
-firsts_is a b ranked unranked = λ i. record { ranked = ranked i; unranked = unranked i }
 
 -- the row of the node's own location
 own_row : (g : PlainGraph) (n : ℕ) (node : Node) → place_of g n ≡ node.loc → rank_at g n ≡ node.rank → (r : ℕ) → r ≡ node.loc → row_with (firsts_below g n r) node n ≡ firsts_below g (suc n) r

@@ -7,10 +7,7 @@ use Rattle.policy_base.specs.declared.case.Case.{Case}
 use Rattle.policy_base.specs.Cases.{case_list}
 use Rattle.policy_base.specs.Policies.{PlainPolicy, PlainStatement}
 use Rattle.policy_base.specs.CaseNumbers.{IsCase, OfCase}
-use Rattle.case_core.specs.Refusals.{IsCause, IsGraphOf}
-use Rattle.case_core.specs.declared.refusal.CompileRefusal.{CompileRefusal}
-use Rattle.case_core.specs.declared.refusal.CompileRefusal.TheVariants.{TooManyRanks, TooManyStates, TooManySteps, SourceWithoutPath, MixedSource, NoEvidence, NoMemory}
-use Rattle.case_evidence.specs.Accepted.{IsCaseCause}
+use Rattle.case_core.specs.Refusals.{IsGraphOf}
 use Rattle.case_core.specs.declared.cases.CaseGraph.{CaseGraph}
 use Rattle.policy_base.proofs.KnownCases.{case_known}
 
@@ -32,13 +29,3 @@ used_within net policy number room given from within of =
     let case = case_there net policy number from within in
     let graph = of case.0 case.1 case.2 in
     omega (arith, graph.1.within.steps, graph.2)
-
--- what refuses the graph of a case refuses the case
-pub case_cause : (net : PlainNet) (number room : ℕ) (s : PlainStatement) (c : Case) (e : CompileRefusal) → IsCause net number room s c e → IsCaseCause net number room s c e
-case_cause net number room s c (TooManyRanks k count) why = why
-case_cause net number room s c (TooManyStates k) why = why
-case_cause net number room s c (TooManySteps k) why = why
-case_cause net number room s c (SourceWithoutPath k r) why = why
-case_cause net number room s c (MixedSource k r with without) why = why
-case_cause net number room s c (NoEvidence k g r) why = absurd why
-case_cause net number room s c NoMemory why = why

@@ -20,7 +20,7 @@ use Rattle.policy_base.specs.CaseNumbers.{OriginsAreRouters}
 use Rattle.case_evidence.specs.declared.accepted.AcceptedCase.{AcceptedCase}
 use Rattle.compile_core.specs.Accepting.{AreAllGiven}
 use Rattle.compile_core.specs.Compiling.{evidence_of, IsEvidenceOfMade, IsMade, graphs_of}
-use Rattle.compile_core.proofs.Known.{are_tags, as_many_graphs, as_many_prefs, case_evidence, case_graph, evidence_for, known_at, passing, single}
+use Rattle.compile_core.proofs.Known.{are_tags, as_many_graphs, case_evidence, case_graph, evidence_for, known_at, passing, single}
 use Rattle.compile_core.proofs.Limits.{few_nodes}
 use Rattle.compile_core.proofs.Parts.{as_many_tags}
 
@@ -55,9 +55,6 @@ module _ (net : PlainNet) (rules : IsNet net) (policy : PlainPolicy) (kept : IsP
 
   pub graph_each : length gs ≡ length cs
   graph_each = ap length graphs_are ∙ as_many_graphs net rules policy routers accepted given.1.count given.1.each ∙ ap length (sym cases)
-
-  pub prefs_each : length ps ≡ length cs
-  prefs_each = ap length (same_p ∙ given.1.prefs) ∙ as_many_prefs net rules policy routers accepted given.1.count given.1.each ∙ ap length (sym cases)
 
   pub tags_each : length ts ≡ length cs
   tags_each = ap length tags ∙ as_many_tags net graphs ∙ ap length (sym same_g) ∙ graph_each

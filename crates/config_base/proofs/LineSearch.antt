@@ -19,9 +19,6 @@ same_key a b = a.first == b.first && (a.second == b.second && a.third == b.third
 above_later : (a b k : Key) → IsBelow a b → above b k ≡ true → above a k ≡ true
 above_later a b k below h = grind (arith, nat_tests)
 
-not_above_later : (a b k : Key) → IsBelow a b → above a k ≡ false → above b k ≡ false
-not_above_later a b k below h = grind (arith, nat_tests)
-
 above_differs : (a k : Key) → above a k ≡ true → same_key a k ≡ false
 above_differs a k h = grind (arith, nat_tests)
 

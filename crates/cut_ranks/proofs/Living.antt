@@ -1,31 +1,17 @@
 -- The cuts that the tables tell are those of what lives.
-use Rattle.std.proofs.Common.{◌≡◌, ℕ, ◌+◌, Bool, true, false, not, List, [], ◌∷◌, ◌++◌, append-nil, length, map, filter, ap, ap₂, ◌∙◌}
+use Rattle.std.proofs.Common.{◌≡◌, ℕ, ◌+◌, Bool, true, false, not, List, [], ◌∷◌, ◌++◌, append-nil, map, filter, ap, ◌∙◌}
 use Rattle.std.specs.Prelude.{if◌then◌else◌}
 use Rattle.std.proofs.lemmas.List.{map-append}
-use Rattle.std.proofs.lemmas.List.Elements.{filter-append}
 use Rattle.net_base.specs.Locations.{numbers_below}
 use Rattle.net_base.specs.Network.{PlainNet}
 use Rattle.net_base.specs.Sets.{holds}
 use Rattle.net_base.proofs.NumbersBelow.{filter_kept, filter_left}
-use Rattle.outcome_base.specs.Outcomes.{Failures}
-use Rattle.scenarios.specs.Surviving.{AreSurvivors, live_by}
+use Rattle.scenarios.specs.Surviving.{live_by}
 use Rattle.scenarios.specs.declared.survivors.Survivors.{Survivors}
-use Rattle.scenarios.proofs.Survived.{live_is}
-use Rattle.impact_law.specs.Cuts.{live_cuts}
-use Rattle.impact_law.specs.declared.impact.Cut.{Cut}
 use Rattle.impact_law.specs.declared.impact.Cut.TheVariants.{Router}
 use Rattle.cut_ranks.specs.Lives.{link_cut, link_cuts, router_cuts}
 
 -- ---- one link more
-
-links_next : (net : PlainNet) (s : Survivors) (links : List (ℕ × ℕ)) (link : ℕ × ℕ) → link_cuts net s (links ++ link ∷ []) ≡ link_cuts net s links ++ link_cuts net s (link ∷ [])
-links_next net s links link =
-    let lives : ℕ × ℕ → Bool = λ (l : ℕ × ℕ). live_by net s l.0 l.1 in
-    ap (map link_cut) (filter-append lives links (link ∷ [])) ∙ map-append link_cut (filter lives links) (filter lives (link ∷ []))
-
-pub link_more : (net : PlainNet) (s : Survivors) (links : List (ℕ × ℕ)) (link : ℕ × ℕ) → live_by net s link.0 link.1 ≡ true
-    → link_cuts net s (links ++ link ∷ []) ≡ link_cuts net s links ++ link_cut link ∷ []
-link_more net s links link is = links_next net s links link ∙ ap (λ b. link_cuts net s links ++ map link_cut (if b then link ∷ [] else [])) is
 
 pub link_same : (net : PlainNet) (s : Survivors) (links : List (ℕ × ℕ)) (link : ℕ × ℕ) → live_by net s link.0 link.1 ≡ false → link_cuts net s (links ++ link ∷ []) ≡ link_cuts net s links
 link_same net s links link is =
@@ -43,9 +29,3 @@ pub router_same : (s : Survivors) (n : ℕ) → not (holds s.dead n) ≡ false �
 router_same s n is = ap (map Router) (filter_left (router_lives s) n is)
 
 -- ---- together
-
-pub cuts_are : (net : PlainNet) (f : Failures) (s : Survivors) → AreSurvivors net f s → link_cuts net s net.links ++ router_cuts s (length net.routers) ≡ live_cuts net f
-cuts_are net f s are =
-    ap₂ (λ (xs ys : List Cut). xs ++ ys)
-    (λ i. map link_cut (filter (λ (l : ℕ × ℕ). live_is net f s are l.0 l.1 i) net.links))
-    (λ i. map Router (filter (λ (r : ℕ). not (are.dead r i)) (numbers_below (length net.routers))))

@@ -9,7 +9,7 @@ use Rattle.net_base.proofs.Links.{linked_known}
 use Rattle.event_base.specs.World.{Speakers, World, at, choice, live, offers, running, tell, with_choice}
 use Rattle.event_state.specs.declared.world.World.{World as Kept}
 use Rattle.event_state.specs.States.{blank, speakers}
-use Rattle.event_core.proofs.Tellings.{told_alike, told_nothing}
+use Rattle.event_core.proofs.Tellings.{told_alike}
 use Rattle.event_core.proofs.OneGo.{told_once}
 
 one_less : (x n : ℕ) → (nat_lt x n || x == n) ≡ nat_lt x (n + 1)
@@ -46,13 +46,6 @@ module _ (S : Speakers Route) where
       each x =
           either (nat_lt x n) (x == n) (choice S (opened n) n) (S.choose x (λ u. None)) (λ t. chosen ∙ ap (λ z. S.choose z (λ u. None)) (sym (eqb-true x n t)))
           ∙ ap (λ b. if b then S.choose x (λ u. None) else None) (one_less x n)
-
-  -- the first locations have told
-  pub told_below_first : (w : World Route) → w ≡ tell S (λ a b. nat_lt a 0) w
-  told_below_first w = told_nothing S (λ a b. nat_lt a 0) w (λ a b t. absurd (no (sym (nat_lt-zero a) ∙ t)))
-    where
-      no : false ≡ true → ⊥
-      no e = cc
 
   pub told_below_next : (own : (m : Option Route) → S.same m m ≡ true) (n : ℕ) (w : World Route) → tell S (λ a b. at n a) (tell S (λ a b. nat_lt a n) w) ≡ tell S (λ a b. nat_lt a (n + 1)) w
   told_below_next own n w = told_once S own (λ a b. nat_lt a n) (λ a b. at n a) w ∙ ap (λ (q : ℕ → ℕ → Bool). tell S q w) (λ i a b. one_less a n i)

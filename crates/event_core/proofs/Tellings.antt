@@ -97,9 +97,6 @@ module _ {R : Type 0} (S : Speakers R) where
       either false true v old = refl
       either false false v old = refl
 
-  pub emptied_first : {A : Type 0} (p : A → ℕ → ℕ → Bool) (w : World R) → w ≡ emptied S (some p []) w
-  emptied_first p w = refl
-
   pub emptied_both : (a b : ℕ) (w : World R) → emptied S (is b a) (emptied S (is a b) w) ≡ emptied S (joins a b) w
   emptied_both a b w = emptied_once (is a b) (is b a) w
 

@@ -25,12 +25,6 @@ follows_made log longer w v back same more on e = record {
       ∙ ap (undone w.net.now log) (cond-true (is_on w.net.now back) (with_change back (state v)) (state v) on ∙ e);
 }
 
-pub follows_same : (log longer : List Change) (w v : World) → setting v ≡ setting w → longer ≡ log → state v ≡ state w → Follows log w longer v
-follows_same log longer w v same more e = record {
-  setting = same;
-  back = ap (λ cs. undone w.net.now cs (state v)) more ∙ ap (undone w.net.now log) e;
-}
-
 pub follows_then : {k l m : List Change} {w v u : World} → Follows k w l v → Follows l v m u → Follows k w m u
 follows_then {k} {l} {m} {w} {v} {u} f g = record {
   setting = g.setting ∙ f.setting;

@@ -11,7 +11,7 @@ use Rattle.list_law.proofs.Positions.{find-position, list_any-at_position}
 use Rattle.list_law.proofs.Tests.{find-any, find_parts}
 use Rattle.net_base.specs.Network.{PlainNet, IsLink, IsNet, joins, linked}
 use Rattle.net_base.proofs.LinkSearch.{is_some-position}
-use Rattle.net_base.proofs.Links.{linked_flips, joins_ends}
+use Rattle.net_base.proofs.Links.{joins_ends}
 use Rattle.event_base.specs.World.{is}
 use Rattle.event_state.specs.Directions.{at_direction, direction}
 
@@ -25,9 +25,6 @@ place_link a b ls l h =
 -- linked locations have a direction, each way
 pub has_way : (net : PlainNet) (a b : ℕ) → linked net a b ≡ true → is_some (direction net a b) ≡ true
 has_way net a b h = is_some-option_map (λ place. if ltb a b then place else length net.links + place) (position (joins a b) net.links) ∙ is_some-position (joins a b) net.links ∙ h
-
-pub linked_back : (net : PlainNet) (a b : ℕ) → linked net a b ≡ true → linked net b a ≡ true
-linked_back net a b h = linked_flips net b a ∙ h
 
 -- an entry that is written, and the others
 pub set_same : {A : Type 0} (xs : List A) (d : ℕ) (v nothing : A) → d < length xs → slice_index_or (slice_set xs d v) d nothing ≡ v
@@ -91,10 +88,6 @@ module _ (net : PlainNet) (rules : IsNet net) where
         where
           same_link : (v : Way a b d) (w : Way x y d) → v.place ≡ w.place → v.link ≡ w.link
           same_link v w e = (let is : Some v.link ≡ Some w.link = sym v.at ∙ ap (slice_get net.links) e ∙ w.at in cc)
-
-  -- directions are below twice the links
-  pub direction_below : (a b d : ℕ) → direction net a b ≡ Some d → d < length net.links + length net.links
-  direction_below a b d h = (let w = way_of a b d h in elim w.either [ inl e ↦ omega (arith, w.below, e.2) | inr e ↦ omega (arith, w.below, e.2) ])
 
   -- A write at the direction from a to b changes what stands there, and nothing else.
   pub written : {A : Type 0} (xs : List A) (nothing v : A) (a b d : ℕ) → direction net a b ≡ Some d → d < length xs → (x y : ℕ)

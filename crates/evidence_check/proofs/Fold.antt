@@ -129,16 +129,6 @@ module _ (net : PlainNet) (policy : PlainPolicy) (cs : List PlainCaseEvidence) w
 
   -- ---- the cases of the policy
 
-  pub none_listed : AreListed net policy cs 0 all_steps
-  none_listed = record { each = λ k le. each k le; within = refl }
-    where
-      each : (k : ℕ) → k ≤ 0 → IsListed net policy cs k
-      each zero le = record { same = refl; within = tt }
-      each (suc k) le = absurd (omega (arith, le))
-
-  pub none_least : IsLeast net policy cs 0 None
-  none_least r most k le = let zero_k : 0 ≡ k = omega (arith, le) in subst (KeepsIn r net policy cs) zero_k (no_case 0 refl (none_listed.each 0 (omega arith)) r most)
-
   module _ (j room : ℕ) (are : AreListed net policy cs j room) where
     number_next : j + 1 ≡ suc j
     number_next = omega arith

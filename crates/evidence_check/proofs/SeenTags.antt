@@ -36,20 +36,6 @@ module _ (net : PlainNet) (cs : List PlainCaseEvidence) where
     new = λ j m d c before at order r p t. none c at;
   }
 
-  no_first : (j m : ℕ) (c : PlainCaseEvidence) → j < 1 → IsNodeOf cs j m c → ⊥
-  no_first zero m c lt at = let none = at.0 in absurd cc
-  no_first (suc j) m c lt at = omega (arith, lt)
-
-  before_one : (j m : ℕ) → IsEarlierNode j m 1 0 → j < 1
-  before_one j m earlier = elim earlier [ inl lt ↦ lt | inr e ↦ absurd (omega (arith, e.1)) ]
-
-  pub none_yet : AreSeen net cs 1 0 []
-  none_yet = record {
-    kept = λ j m earlier. not_node j m (λ c at. no_first j m c (before_one j m earlier) at);
-    has = λ j m d at earlier r. absurd (no_first j m d (before_one j m earlier) at);
-    from = λ t seen. absurd (false≢true seen);
-  }
-
   same_case : (j k : ℕ) (d c : PlainCaseEvidence) → case_at cs j ≡ Some d → case_at cs k ≡ Some c → j ≡ k → d ≡ c
   same_case j k d c at_j at_k e = same_Some d c (sym at_j ∙ ap (case_at cs) e ∙ at_k)
 

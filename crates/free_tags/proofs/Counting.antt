@@ -19,19 +19,6 @@ module _ (tags : List Tag) (asn : ℕ) where
   step-free : (m : ℕ) → is_taken tags asn (suc m) ≡ false → free_count tags asn (suc m) ≡ free_count tags asn m + 1
   step-free m is = ap {B = ℕ} (λ b. free_count tags asn m + cond b 0 1) is
 
-  -- up to one more value
-  pub next-taken : (v n : ℕ) → n ≡ v + 1 → is_taken tags asn n ≡ true → free_count tags asn n ≡ free_count tags asn v
-  next-taken v zero e is = absurd (omega (arith, e))
-  next-taken v (suc m) e is =
-      let same : m ≡ v = omega (arith, e) in
-      step-taken m is ∙ ap (free_count tags asn) same
-
-  pub next-free : (v n : ℕ) → n ≡ v + 1 → is_taken tags asn n ≡ false → free_count tags asn n ≡ free_count tags asn v + 1
-  next-free v zero e is = absurd (omega (arith, e))
-  next-free v (suc m) e is =
-      let same : m ≡ v = omega (arith, e) in
-      step-free m is ∙ ap (λ x. free_count tags asn x + 1) same
-
   step-grows : (m : ℕ) → free_count tags asn m ≤ free_count tags asn (suc m)
   step-grows m = elim (cases_Bool (is_taken tags asn (suc m))) [
     | inl t ↦ omega (arith, step-taken m t)

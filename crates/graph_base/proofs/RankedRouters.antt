@@ -18,9 +18,6 @@ IsRankedBelow g i x n = (n < i) × (place_of g n ≡ x) × IsSome (rank_at g n)
 abbrev pub AreRankedBelow : PlainNet → PlainGraph → ℕ → LocSet → Type 0
 AreRankedBelow net g i set = (x : ℕ) → IsTrue (holds set x) ↔ IsTrue (is_router net x) × ((n : ℕ) × IsRankedBelow g i x n)
 
-pub none_ranked : (net : PlainNet) (g : PlainGraph) (set : LocSet) → ((x : ℕ) → holds set x ≡ false) → AreRankedBelow net g 0 set
-none_ranked net g set none x = (λ h. absurd (true≢false (sym h ∙ none x)), λ h. absurd (omega (arith, h.1.1.0)))
-
 module _ (net : PlainNet) (g : PlainGraph) (i : ℕ) (node : Node) (place : place_of g i ≡ node.loc) (rank : rank_at g i ≡ node.rank) where
   later : (x : ℕ) → IsTrue (is_router net x) × ((n : ℕ) × IsRankedBelow g i x n) → IsTrue (is_router net x) × ((n : ℕ) × IsRankedBelow g (suc i) x n)
   later x h = (h.0, (h.1.0, (omega (arith, h.1.1.0), h.1.1.1, h.1.1.2)))

@@ -4,7 +4,6 @@ pub mod AuditLaws
 pub mod Audits
 pub mod MigrateLaws
 pub mod LintLaws
-pub mod Showing
 mod MapJobLaws
 pub mod CheckMapLaws
 pub mod ConfigMapLaws

@@ -105,10 +105,6 @@ pub ends_well : (policy_text : List ℕ) (net : PlainNet) (policy : PlainPolicy)
 ends_well policy_text net policy what within (inl h) = status_is _ _ h.2
 ends_well policy_text net policy what within (inr h) = absurd (never_both net policy h.0 within h.1)
 
-pub done_within : (policy_text : List ℕ) (net : PlainNet) (policy : PlainPolicy) (what : Said) → what.status ≡ Done → SaysOfPolicy policy_text net policy what → AreAllWithin net policy
-done_within policy_text net policy what done (inl h) = h.1.within
-done_within policy_text net policy what done (inr h) = let e = status_is _ _ h.2 in absurd cc
-
 -- and else with the refusal that applies
 pub ends_refused : (policy_text : List ℕ) (net : PlainNet) (policy : PlainPolicy) (what : Said) (e : LintRefusal) → IsRefusedFor net policy e → SaysOfPolicy policy_text net policy what
     → what ≡ line Refused (refusal_line net (compile_refusal e))

@@ -55,9 +55,6 @@ covered_too qs ps q before = (more, less)
 pub not_covered : (qs ps : List PlainPattern) (q : PlainPattern) → AreCovered qs (ps ++ q ∷ []) → AreCovered qs ps
 not_covered qs ps q all p lawful h = all p lawful (in_front ps (q ∷ []) p h)
 
-pub none_covered : (qs : List PlainPattern) → AreCovered qs []
-none_covered qs p lawful h = absurd (false≢true h)
-
 -- ---- statements one after another
 
 -- the patterns of one statement more

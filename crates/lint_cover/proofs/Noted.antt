@@ -9,9 +9,6 @@ use Rattle.lint_cover.specs.Tables.{AreEnds}
 max_assoc : (a b c : ℕ) → max a (max b c) ≡ max (max a b) c
 max_assoc a b c = omega arith
 
-max_zero : (a : ℕ) → max 0 a ≡ max a 0
-max_zero a = omega arith
-
 max_swap : (a b : ℕ) → max a b ≡ max b a
 max_swap a b = omega arith
 

@@ -1,7 +1,7 @@
 -- The bits that are set are the ranks of permitted walks.
-use Rattle.std.proofs.Common.{◌≡◌, ℕ, zero, suc, ◌+◌, ◌<◌, ◌≤◌, true, false, length, Some, refl, sym, ap, subst, ◌∙◌, inl, inr, arith}
+use Rattle.std.proofs.Common.{◌≡◌, ℕ, zero, suc, ◌+◌, ◌<◌, ◌≤◌, true, length, Some, refl, sym, ap, subst, ◌∙◌, inl, inr, arith}
 use Rattle.std.specs.Prelude.{◌↔◌, ◌&&◌, ◌||◌, ◌==◌, ◌⊎◌, IsTrue, option_and_then, slice_get}
-use Rattle.std.proofs.lemmas.Bool.{and_parts, and_from, cases_order, eq-eqb, eqb-true, false≢true, or_cases, or_left, or_right}
+use Rattle.std.proofs.lemmas.Bool.{and_parts, and_from, cases_order, eq-eqb, eqb-true, or_cases, or_left, or_right}
 use Rattle.std.proofs.lemmas.Option.{same_Some, slice_get_within}
 use Rattle.list_law.proofs.Members.{list_any-from_IsIn}
 use Rattle.list_law.proofs.Options.{option_and_then_parts, option_map_or_equal}
@@ -33,9 +33,6 @@ rank_node g b h =
     let rank = option_map_or_equal found.1.rank b found.3 in
     (found.0, slice_get_within g.nodes found.0 found.1 found.2, ap (option_and_then (λ (x : Node). x.rank)) found.2 ∙ rank)
 
-pub ranks_are_nodes : (g : PlainGraph) (b : ℕ) → IsTrue (some_has_rank b g.nodes) ↔ HasRank g b
-ranks_are_nodes g b = (rank_node g b, node_rank g b)
-
 -- ---- the cases one after the other
 
 -- a permitted walk of one of the first k cases
@@ -59,12 +56,6 @@ module _ (net : PlainNet) (policy : PlainPolicy) where
   same_case number s t c d a b =
       let one : c ≡ d = same_Some c d (sym a.case ∙ b.case) in
       (same_Some s t (sym a.statement ∙ ap (λ (x : Case). statement_at policy x.statement) one ∙ b.statement), one)
-
-  pub reached_none : (ranks : PlainRows) → ((n b : ℕ) → has_at ranks n b ≡ false) → AreReachedTo net policy 0 ranks
-  reached_none ranks clear n b within = (
-    λ h. absurd (false≢true (sym (clear n b) ∙ h)),
-    λ r. absurd (no_case r.0.statement r.0.case r.0.number r.1 r.0.is),
-  )
 
   pub reached_all : (k : ℕ) (ranks : PlainRows) → k ≡ length (case_list net policy) → AreReachedTo net policy k ranks → AreReached net policy ranks
   reached_all k ranks all are n b within = (

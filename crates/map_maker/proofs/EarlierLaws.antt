@@ -128,9 +128,6 @@ counted_next entries spans i d h apart =
 pub kept_sum : (all total more next rest : ℕ) → all ≡ min (total + (more + rest)) top → next ≡ min (total + more) top → all ≡ min (next + rest) top
 kept_sum all total more next rest a b = omega (arith, a, b)
 
-pub kept_sum_of_kept : (all total more kept next rest : ℕ) → all ≡ min (total + (more + rest)) top → kept ≡ min more top → next ≡ min (total + kept) top → all ≡ min (next + rest) top
-kept_sum_of_kept all total more kept next rest a k b = omega (arith, a, k, b)
-
 -- ---- blocks
 
 pub entries_in-push : (bs : List (List Entry)) (b : List Entry) → entries_in (bs ++ b ∷ []) ≡ entries_in bs ++ b

@@ -26,9 +26,6 @@ in_some-push spans s k = list_any-append (λ (s : Span). in_span s k) spans (s �
 pub in_span-empty : (s : Span) (k : ℕ) → s.to ≤ s.from → in_span s k ≡ false
 in_span-empty s k le = false_from_ne_true (in_span s k) (λ h. let both = and_parts (nat_le s.from k) (nat_lt k s.to) h in absurd (omega (arith, le, leb-true s.from k both.0, ltb-true k s.to both.1)))
 
-pub without_empty : (spans : List Span) (s : Span) (k : ℕ) → s.to ≤ s.from → in_some spans k ≡ (in_some spans k || in_span s k)
-without_empty spans s k le = sym (ap (λ b. in_some spans k || b) (in_span-empty s k le) ∙ or-false (in_some spans k))
-
 AreApart-push : (spans : List Span) (s : Span) → AreApart spans → ((k : ℕ) → in_span s k ≡ true → in_some spans k ≡ false) → AreApart (spans ++ s ∷ [])
 AreApart-push [] s apart none = (λ k h. refl, tt)
 AreApart-push (t ∷ spans) s apart none = (
@@ -44,17 +41,6 @@ AreApart-push (t ∷ spans) s apart none = (
     later k on h = let e : (in_span t k || in_some spans k) ≡ false = none k on in let f : (true || in_some spans k) ≡ false = ap (λ b. b || in_some spans k) (sym h) ∙ e in cc
 
 module _ (spans : List Span) (reached : ℕ) (s : Span) (j : AreJoined spans reached s.from) where
-  -- nothing of it is new
-  pub old_span : s.to ≤ max s.from reached → (k : ℕ) → in_some spans k ≡ (in_some spans k || in_span s k)
-  old_span le k = same_tests (in_some spans k) (in_some spans k || in_span s k) (λ h. or_left (in_some spans k) (in_span s k) h) (λ h. elim (or_cases (in_some spans k) (in_span s k) h) [
-    | inl t ↦ t
-    | inr t ↦
-        let both = and_parts (nat_le s.from k) (nat_lt k s.to) t in
-        let low : s.from ≤ k = leb-true s.from k both.0 in
-        let high : k < s.to = ltb-true k s.to both.1 in
-        j.full k low (omega (arith, le, low, high))
-  ])
-
   -- what is new begins where the others end
   abbrev pub new : Span
   new = record { from = max s.from reached; to = s.to }

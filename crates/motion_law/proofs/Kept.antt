@@ -68,10 +68,6 @@ module _ (net : PlainNet) (policy : PlainPolicy) (config : PlainConfig) (p : Pla
     queued = cond-false (q a b) None (w.queued a b) f;
   }
 
-  -- what was heard on a dead direction doesn't matter
-  dead-kept : (w v : Motion) (a b : ℕ) → live v a b ≡ false → live w a b ≡ false → v.queue a b ≡ w.queue a b → v.queued a b ≡ w.queued a b → KeptAt w a b → KeptAt v a b
-  dead-kept w v a b off was e q k = (let g = k.gone was in empty-kept v a b off (e ∙ g.0) (q ∙ g.1))
-
   -- ---- the moves
 
   hear-kept : (a b : ℕ) (ms : List (Option Sent)) (w : Motion) → w.queue a b ≡ ms → IsKept w → IsKept (next_heard a b ms w)

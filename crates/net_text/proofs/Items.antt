@@ -7,7 +7,7 @@ use Rattle.json_values.specs.Json.{array_of}
 use Rattle.net_base.specs.Network.{PlainNet}
 use Rattle.net_base.specs.declared.net.Site.{Site}
 use Rattle.text_parts.specs.Texts.{address_text}
-use Rattle.net_text.specs.NetText.{link_data, name_at, net_data, net_text, site_data}
+use Rattle.net_text.specs.NetText.{link_data, net_data, net_text, site_data}
 use Rattle.serde_json.specs.Data.{Data, string}
 use Rattle.serde_json.specs.View.{items_of}
 use Rattle.serde_json.specs.Written.{compact_text, items_text}
@@ -26,11 +26,6 @@ pub site_as : (s : Site)
     ≡ compact_text (site_data s)
 unfolding site_data escape_byte
 site_as s = refl
-
-pub link_as : (net : PlainNet) (link : ℕ × ℕ)
-    → codes "[" ++ (compact_text (string (name_at net link.0)) ++ (codes "," ++ (compact_text (string (name_at net link.1)) ++ codes "]")))
-    ≡ compact_text (link_data net link)
-link_as net link = refl
 
 pub net_as : (net : PlainNet)
     → codes "{\"links\":"

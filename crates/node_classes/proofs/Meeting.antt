@@ -153,12 +153,6 @@ length-filtered n (w ∷ ws) = elim (cases_Bool (w.from == n)) [
   | inr off ↦ let h = length-filtered n ws in rw off (omega (arith, h))
 ]
 
-pub work_skipped : (count : ℕ) (old new : List ℕ) (rest : List (ℕ × ℕ)) (p : ℕ × ℕ) → sum new ≤ sum old → work count new rest < work count old (rest ++ p ∷ [])
-work_skipped count old new rest p le =
-    let len = length-append rest (p ∷ []) in
-    let product : sum new * suc count ≤ sum old * suc count = grind arith in
-    omega (arith, len, product)
-
 pub work_joined : (ways vs ws : List Way) (x : ℕ) (old new : List ℕ) (rest : List (ℕ × ℕ)) (p : ℕ × ℕ) → sum new < sum old → vs ≡ filter (comes_from x) ways →
     work (length ways) new (rest ++ targets vs ws) < work (length ways) old (rest ++ p ∷ [])
 work_joined ways vs ws x old new rest p lt of_x =
@@ -213,15 +207,3 @@ either_root up one other n a b h = elim (cases_lt one other) [
 
 pub max_below : (one other n : ℕ) → one < n → other < n → max one other < n
 max_below one other n a b = grind arith
-
-pub min_below_max : (one other : ℕ) → one ≢ other → min one other < max one other
-min_below_max one other apart = elim (cases_lt one other) [
-  | inl lt ↦
-      let low : min one other ≡ one = grind arith in
-      let high : max one other ≡ other = grind arith in
-      omega (arith, low, high, lt)
-  | inr le ↦
-      let low : min one other ≡ other = grind arith in
-      let high : max one other ≡ one = grind arith in
-      omega (arith, low, high, le, apart)
-]

@@ -56,9 +56,6 @@ module _ (size : ℕ) (classes : List ℕ) (members : List (List ℕ)) (marks : 
   chosen_in : (s : Bool) (n : ℕ) → n < size → class_in classes n ≡ c → has_mark marks s n ≡ true → is_among (filter (has_mark marks s) (list_of members c)) n ≡ true
   chosen_in s n lt is m = among-filter (has_mark marks s) (list_of members c) n (subst (λ k. is_listed members k n ≡ true) is (groups.listed n lt)) m
 
-  pub part_below : (n : ℕ) → is_among part n ≡ true → n < size
-  part_below n h = (chosen_parts (not side) n h).0
-
   pub part_ascends : Ascends part
   part_ascends = ascends-filter (has_mark marks (not side)) (list_of members c) (groups.ascend c)
 

@@ -1,6 +1,6 @@
 -- How what is kept of the pairs stays so, one location after another.
 use Rattle.std.proofs.Common.{◌≡◌, ◌⊎◌, ℕ, ◌+◌, ◌<◌, ◌≤◌, false, List, [], ◌∷◌, ◌++◌, length, Some, None, refl, sym, ap, ◌∙◌, subst, arith, inl, inr}
-use Rattle.std.specs.Prelude.{◌&&◌, ◌==◌, IsTrue, slice_get}
+use Rattle.std.specs.Prelude.{◌&&◌, ◌==◌, slice_get}
 use Rattle.std.specs.List.{list_any}
 use Rattle.std.proofs.lemmas.Bool.{and_from, and_parts, cases_lt, eq-eqb, eqb-true, or_cases, or_left, or_right}
 use Rattle.std.proofs.lemmas.List.{length-append}
@@ -15,9 +15,6 @@ abbrev at_place : NodePair → ℕ
 at_place x = x.place
 
 -- ---- one step more
-
-is_link : ℕ → ℕ → ℕ × ℕ → Type 0
-is_link m n s = IsTrue (s.0 == m && s.1 == n)
 
 pub links_old : (steps : List (ℕ × ℕ)) (s : ℕ × ℕ) (m n : ℕ) → links steps m n → links (steps ++ s ∷ []) m n
 links_old steps s m n h = list_any-append (λ (t : ℕ × ℕ). t.0 == m && t.1 == n) steps (s ∷ []) ∙ or_left _ _ h

@@ -1,6 +1,6 @@
 -- Tables that are filled step by step.
-use Rattle.std.proofs.Common.{◌≡◌, ℕ, suc, ◌+◌, ◌*◌, ◌<◌, ◌≤◌, Bool, true, false, cond, List, [], ◌∷◌, length, take, get_or, Option, Some, None, refl, sym, ap, ◌∙◌, subst, arith, inl, inr, replicate}
-use Rattle.std.specs.Prelude.{◌&&◌, ◌==◌, option_map, slice_get, unwrap_or}
+use Rattle.std.proofs.Common.{◌≡◌, ℕ, suc, ◌+◌, ◌*◌, ◌<◌, ◌≤◌, Bool, true, false, cond, List, [], ◌∷◌, length, take, get_or, Option, Some, None, refl, sym, ap, ◌∙◌, subst, arith, inl, inr}
+use Rattle.std.specs.Prelude.{◌&&◌, ◌==◌, option_map, slice_get}
 use Rattle.std.specs.List.{find}
 use Rattle.std.specs.Option.{option_or}
 use Rattle.std.proofs.Math.Nat.{mul-le-mul_right, suc-mul}
@@ -9,7 +9,6 @@ use Rattle.std.proofs.lemmas.List.{take_more}
 use Rattle.std.proofs.lemmas.List.Folds.{find-append}
 use Rattle.std.proofs.lemmas.Option.{slice_get-get_or}
 use Rattle.list_law.proofs.Each.{AllByRecursion_at}
-use Rattle.list_law.proofs.Items.{none_there}
 use Rattle.graph_base.specs.Graphs.{PlainGraph, IsGraph}
 use Rattle.graph_base.specs.Least.{or_else}
 use Rattle.graph_base.specs.Runs.{place_of}
@@ -93,24 +92,7 @@ step_noted g w steps table later i place s whole lt is at within are noted n l b
 
 -- ---- none yet
 
-pub none_noted : (n k : ℕ) → entry (replicate n None) k ≡ None
-none_noted n k = by (slice_get (replicate n None) k) (λ x at. none_at n k x at)
-  where
-    none_at : (n k : ℕ) (x : Option ℕ) → slice_get (replicate n None) k ≡ Some x → x ≡ None
-    none_at n k None at = refl
-    none_at n k (Some v) at = absurd (none_there n k v at)
-
-    by : (o : Option (Option ℕ)) → ((x : Option ℕ) → o ≡ Some x → x ≡ None) → unwrap_or o None ≡ None
-    by None h = refl
-    by (Some x) h = h x refl
-
 -- ---- within
-
--- a start that is read is a node, and so are both ends of a step
-pub start_read : (g : PlainGraph) (starts : List ℕ) (i : ℕ) → IsGraph g → starts ≡ g.starts → i < length starts → get_or starts i 0 < length g.nodes
-start_read g starts i rules whole lt =
-    let at : slice_get g.starts i ≡ Some (get_or starts i 0) = ap (λ xs. slice_get xs i) (sym whole) ∙ slice_get-get_or starts i 0 lt in
-    AllByRecursion_at (λ n. n < length g.nodes) g.starts i (get_or starts i 0) rules.starts at
 
 pub step_read : (g : PlainGraph) (steps : List (ℕ × ℕ)) (i : ℕ) → IsGraph g → steps ≡ g.steps → i < length steps
     → (let s : ℕ × ℕ = get_or steps i (0, 0) in (s.0 < length g.nodes) × (s.1 < length g.nodes))

@@ -2,22 +2,10 @@
 use Rattle.std.proofs.Common.{◌≡◌, ◌⊎◌, ℕ, Bool, true, false, refl, sym, ap, ◌∙◌, arith, inl, inr, Option, Some, None, lt-ltb, ltb-true}
 use Rattle.std.specs.Prelude.{◌&&◌, ◌||◌, nat_eq}
 use Rattle.std.specs.Option.{option_eq}
-use Rattle.std.proofs.lemmas.Bool.{and_from, and_parts, cases_order, false≢true, or_cases, true≢false}
+use Rattle.std.proofs.lemmas.Bool.{and_from, and_parts, false≢true, or_cases}
 use Rattle.list_law.proofs.Options.{is-option_eq, option_eq-is}
 use Rattle.compare_base.specs.declared.rows.Row.{Row}
 use Rattle.pair_rows.specs.Meetings.{earlier, less_rank}
-
-less_cases : (a b : Option ℕ) → (less_rank a b ≡ true) ⊎ ((a ≡ b) ⊎ (less_rank b a ≡ true))
-less_cases (Some i) (Some j) = elim (cases_order i j) [
-  | inl same ↦ inr (inl (ap Some same))
-  | inr other ↦ elim other [
-    | inl less ↦ inl (lt-ltb i j less)
-    | inr more ↦ inr (inr (lt-ltb j i more))
-  ]
-]
-less_cases (Some i) None = inl refl
-less_cases None (Some j) = inr (inr refl)
-less_cases None None = inr (inl refl)
 
 less_trans : (a b c : Option ℕ) → less_rank a b ≡ true → less_rank b c ≡ true → less_rank a c ≡ true
 less_trans (Some i) (Some j) (Some k) one other = let first = ltb-true i j one in let second = ltb-true j k other in lt-ltb i k (omega (arith, first, second))
@@ -52,21 +40,6 @@ pub earlier_apart : (a b : Row) → earlier a b ≡ true → a ≡ b → ⊥
 earlier_apart a b is same = elim (earlier_parts a b is) [
   | inl t ↦ less_apart a.old (ap (less_rank a.old) (ap (λ (r : Row). r.old) same) ∙ t)
   | inr t ↦ less_apart a.new (ap (less_rank a.new) (ap (λ (r : Row). r.new) same) ∙ t.1)
-]
-
-pub earlier_cases : (a b : Row) → earlier a b ≡ false → (a ≡ b) ⊎ (earlier b a ≡ true)
-earlier_cases a b off = elim (less_cases a.old b.old) [
-  | inl t ↦ absurd (true≢false (sym (by_old a b t) ∙ off))
-  | inr t ↦ elim t [
-    | inl same ↦ elim (less_cases a.new b.new) [
-      | inl u ↦ absurd (true≢false (sym (by_new a b same u) ∙ off))
-      | inr u ↦ elim u [
-        | inl same_too ↦ inl (row_is a b same same_too)
-        | inr more ↦ inr (by_new b a (sym same) more)
-      ]
-    ]
-    | inr more ↦ inr (by_old b a more)
-  ]
 ]
 
 pub earlier_trans : (a b c : Row) → earlier a b ≡ true → earlier b c ≡ true → earlier a c ≡ true

@@ -8,14 +8,6 @@ use Rattle.path_exprs.specs.Language.{Language, nothing, divides, goes_on, repea
 abbrev pub Same : Language → Language → Type 0
 Same p q = (xs : List ℕ) → p xs ≡ q xs
 
--- (a && b) || (c && ..) regrouped
-or_and : (a u v c : Bool) → (((a || c) && u) || ((false || v))) ≡ ((a && u) || ((c && u) || v))
-or_and true true v c = refl
-or_and true false true true = refl
-or_and true false false true = refl
-or_and true false v false = refl
-or_and false u v c = refl
-
 -- divides takes equal languages to equal ones
 pub divides_same : (p p' q q' : Language) → Same p p' → Same q q' → Same (divides p q) (divides p' q')
 divides_same p p' q q' e f xs =

@@ -1,18 +1,18 @@
 -- A strictly ascending list is determined by its members, so sorting and removing repeats gives what inserting one by one gives.
 use Rattle.std.proofs.Common.{◌≡◌, ℕ, zero, suc, ◌<◌, List, [], ◌∷◌, ◌⊎◌, inl, inr, ⊎_elim, length, get_or, refl, sym, ap, subst, ◌∙◌, arith}
 use Rattle.std.specs.List.{Contains, AllByRecursion, dedup}
-use Rattle.std.specs.List.Sorted.{IsStrictlySortedBy, IsSorted, IsPermutation}
+use Rattle.std.specs.List.Sorted.{IsStrictlySortedBy, IsPermutation}
 use Rattle.std.specs.Ordering.{match_ordering, ordering_reverse, on, eq_by_cmp}
 use Rattle.std.specs.declared.cmp.Ordering.{Ordering}
 use Rattle.std.specs.declared.cmp.Ordering.TheVariants.{Less, Equal, Greater}
-use Rattle.std.proofs.lemmas.List.Kept.{IsStrictlySortedBy-dedup, Any-dedup, Contains-from_dedup}
-use Rattle.std.proofs.lemmas.List.Sorted.{Contains-permutation, IsPermutation-sym}
+use Rattle.std.proofs.lemmas.List.Kept.{Any-dedup}
+use Rattle.std.proofs.lemmas.List.Sorted.{Contains-permutation}
 use Rattle.path_exprs.specs.declared.expr.Expr.{Expr}
 use Rattle.path_exprs.specs.Expression.{Expression}
 use Rattle.path_exprs.specs.Order.{compare, Ascends}
 use Rattle.path_exprs.specs.Ordered.{compare-equal}
 use Rattle.path_exprs.specs.Total.{compare_total, compare_itself}
-use Rattle.path_exprs.specs.Alike.{value_total, value_equivalence, equal_views}
+use Rattle.path_exprs.specs.Alike.{value_equivalence, equal_views}
 use Rattle.path_exprs.specs.Normal.{insert, insert_each, sorted}
 use Rattle.path_exprs.specs.View.{view, views}
 
@@ -152,18 +152,3 @@ kept g xs ys p x c q =
     let same = equal_views x other.1 other.4 in
     subst (λ e. In e (views (dedup (eq_by_cmp (on view compare)) ys))) (sym same ∙ q)
     (In-views (dedup (eq_by_cmp (on view compare)) ys) other.1 (other.0, other.2, other.3))
-
-pub sorted-inserted : (xs ys : List Expr) → IsPermutation xs ys → IsSorted (on view compare) ys →
-    views (dedup (eq_by_cmp (on view compare)) ys) ≡ insert_each (views xs) []
-sorted-inserted xs ys p s =
-    let zs : List Expr = dedup (eq_by_cmp (on view compare)) ys in
-    same_members (views zs) (insert_each (views xs) [])
-    (ascends-views zs (IsStrictlySortedBy-dedup value_total (λ x y. refl) ys s))
-    (ascends-insert_each (views xs) [] tt)
-    (λ g i. let r = views-In g zs i in
-    let at : Contains xs r.0 = Contains-permutation ys xs r.0 (IsPermutation-sym xs ys p) (Contains-from_dedup (eq_by_cmp (on view compare)) ys r.0 r.1) in
-    insert_each-In g (views xs) [] (inl (subst (λ e. In e (views xs)) r.2 (In-views xs r.0 at))))
-    (λ g i. ⊎_elim
-    (λ j. let r = views-In g xs j in kept g xs ys p r.0 r.1 r.2)
-    (λ j. absurd j)
-    (In-insert_each g (views xs) [] i))

@@ -5,18 +5,14 @@ use Rattle.std.specs.Option.{option_or}
 use Rattle.net_base.specs.Network.{PlainNet}
 use Rattle.net_base.specs.declared.loc.LocSet.{LocSet}
 use Rattle.policy_words.specs.declared.word.SetCall.{SetCall}
-use Rattle.policy_base.specs.declared.call.Call.{Call}
 use Rattle.policy_base.specs.declared.call.Call.TheVariants.{Of}
 use Rattle.policy_base.specs.declared.ranked.Ranked.{Ranked, Call as OneCall, Calls, Prefer, Or, And, Not, the_lemmas}
-use Rattle.policy_base.specs.Policies.{call, calls, prefer, either, both, negated, ranking_of}
+use Rattle.policy_base.specs.Policies.{calls, prefer, either, both, negated, ranking_of}
 use Rattle.policy_base.specs.Meaning.{alternatives, alternative_count, some_test, place_of}
 use Rattle.policy_base.proofs.RankLemmas.{some_test-pairs}
 use Rattle.policy_base.proofs.RankPlaces.{place_of-append, place_of-pairs, length-alternatives, place_of_none}
 use Rattle.std.proofs.Math.Nat.{zero-mul, mul-zero}
 use Rattle.list_law.proofs.Numbers.{le-mul_left, le-mul_right}
-
-pub ranking_of-Call : (c : Call) → ranking_of (OneCall c) ≡ call c
-ranking_of-Call c = search (rules, the_lemmas)
 
 pub ranking_of-Calls : (c : SetCall) (sets : List LocSet) → ranking_of (Calls c sets) ≡ calls (map (Of c) sets)
 ranking_of-Calls c sets = search (rules, the_lemmas)

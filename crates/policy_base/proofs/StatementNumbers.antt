@@ -1,13 +1,9 @@
 -- The statement with a number.
-use Rattle.std.proofs.Common.{◌≡◌, ℕ, zero, suc, ◌-◌, ◌<◌, ◌≤◌, List, length, map, get_or, Some, None, refl, sym, ap, ◌∙◌, arith}
+use Rattle.std.proofs.Common.{◌≡◌, ℕ, zero, suc, ◌-◌, ◌<◌, ◌≤◌, List, length, map, get_or, Some, refl, sym, ap, ◌∙◌, arith}
 use Rattle.std.specs.Prelude.{slice_get, option_map}
-use Rattle.std.proofs.lemmas.Option.{slice_get_past, slice_get_read, slice_get-map}
+use Rattle.std.proofs.lemmas.Option.{slice_get_read, slice_get-map}
 use Rattle.policy_base.specs.Policies.{PlainPolicy, PlainStatement, PolicyLists, policy_of, plain_statement, statement_at}
 use Rattle.policy_base.specs.declared.policy.Statement.{Statement}
-
-pub statement-none : (policy : PlainPolicy) (n : ℕ) → length policy.statements < n → statement_at policy n ≡ None
-statement-none policy zero past = absurd (omega arith)
-statement-none policy (suc k) past = slice_get_past policy.statements k (omega arith)
 
 pub statement-some : (policy : PlainPolicy) (n : ℕ) (s : PlainStatement) → 1 ≤ n → slice_get policy.statements (n - 1) ≡ Some s → statement_at policy n ≡ Some s
 statement-some policy zero s least at = absurd (omega arith)

@@ -87,7 +87,3 @@ pub keeps_all : (net : PlainNet) (g : PlainGraph) (number : ℕ → ℕ) (marks 
     → ((m t : ℕ) → IsTrue (steps_on g m t) → IsTrue (is_router net (place_of g t))) → ((m n : ℕ) → KeepsStep net g number m n) → (m n : ℕ) → is_marked marks m ≡ false → KeepsLoop net g number m n
 keeps_all net g number marks rule routers step m n off =
     loop_of_itself net g number m n (step m n) (λ t k over on node at_k reach. rule (place_of g t) m (ltb-true _ _ (routers m t on)) off t k on refl node at_k reach)
-
--- and so does one that stands at no router
-pub keeps_elsewhere : (net : PlainNet) (g : PlainGraph) (number : ℕ → ℕ) (m n : ℕ) → is_router net (place_of g m) ≡ false → KeepsLoop net g number m n
-keeps_elsewhere net g number m n off t k over on node at_k reach = absurd (both_ways _ off (ap (is_router net) over.place ∙ over.router))

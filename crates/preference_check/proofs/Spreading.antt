@@ -5,7 +5,7 @@ use Rattle.std.proofs.lemmas.Bool.{cases_Bool, or_cases, or_left, or_right, and_
 use Rattle.std.proofs.lemmas.List.{get_or_past}
 use Rattle.std.proofs.lemmas.List.Folds.{list_any-append}
 use Rattle.reach_prune.specs.Searches.{is_among, is_listed}
-use Rattle.preference_check.specs.Floods.{IsBetweenSearches, Marks, has_mark}
+use Rattle.preference_check.specs.Floods.{Marks, has_mark}
 use Rattle.preference_check.specs.Rows.{has_upto}
 use Rattle.preference_check.proofs.RowLemmas.{is_upto_more, is_upto_some}
 use Rattle.preference_check.specs.declared.flood.Flood.{Flood}
@@ -59,30 +59,6 @@ waits_still s rest a n pop h = ap (λ x. is_among x n) pop ∙ list_any-append (
 waits_last : (s rest : List ℕ) (a : ℕ) → s ≡ rest ++ a ∷ [] → is_among s a ≡ true
 waits_last s rest a pop = ap (λ x. is_among x a) pop ∙ list_any-append (λ x. eqb x a) rest (a ∷ []) ∙ or_right (is_among rest a) _ (or_left (eqb a a) false (eq-eqb a a refl))
 
--- it begins
-pub spread_begin : (lists : List (List ℕ)) (number from : ℕ) (old new : Flood) → IsBetweenSearches lists number old → Marks number (λ n. eqb from n) old new → IsSpreading lists number from old new
-spread_begin lists number from old new s m = record {
-  size = m.size ∙ s.size;
-  waits = λ n h. elim (waiting n h) [ inl none ↦ absurd none | inr t ↦ m.marked n ∙ or_right _ _ t.0 ];
-  fresh = λ n v h up. elim (waiting n h) [
-    | inl none ↦ absurd none
-    | inr t ↦ elim (marked_now number (λ k. eqb from k) old new m n v up) [ inl u ↦ absurd (both_ways _ t.1 (is_upto_some _ v u)) | inr u ↦ u.2 ]
-  ];
-  closed = λ a b v up l. elim (marked_now number (λ k. eqb from k) old new m a v up) [
-    | inl t ↦ inl (stays number (λ k. eqb from k) old new m b v (s.closed a b v t l))
-    | inr t ↦ inr (m.waiting a ∙ or_right (is_among old.waiting.items a) _ (and_from (eqb from a) _ t.0 (not_from_false _ t.1)))
-  ];
-  bounded = bounded_still number (λ k. eqb from k) old new m s.bounded;
-  kept = stays number (λ k. eqb from k) old new m;
-  here = reached_low number (λ k. eqb from k) old new m s.bounded from number (eq-eqb from from refl) (omega arith);
-}
-  where
-    waiting : (n : ℕ) → is_among new.waiting.items n ≡ true → ⊥ ⊎ ((eqb from n ≡ true) × (has_mark old.marks.items n ≡ false))
-    waiting n h = elim (or_cases (is_among old.waiting.items n) (eqb from n && not (has_mark old.marks.items n)) (sym (m.waiting n) ∙ h)) [
-      | inl t ↦ absurd (both_ways _ (ap (λ x. is_among x n) s.idle) t)
-      | inr t ↦ let parts = and_parts (eqb from n) (not (has_mark old.marks.items n)) t in inr (parts.0, not-true _ parts.1)
-    ]
-
 -- the node that waited last goes, and its neighbours are come to
 pub spread_next : (lists : List (List ℕ)) (number from a : ℕ) (nodes : List ℕ) (first old mid new : Flood) → IsSpreading lists number from first old
     → vec_len mid.marks ≡ vec_len old.marks → mid.marks.items ≡ old.marks.items
@@ -129,15 +105,6 @@ spread_next lists number from a nodes first old mid new s len same pop listed m 
       | inl t ↦ inl t
       | inr t ↦ let parts = and_parts (is_among nodes n) (not (has_mark mid.marks.items n)) t in inr (parts.0, not-true _ parts.1)
     ]
-
--- it ends
-pub spread_end : (lists : List (List ℕ)) (number from : ℕ) (first f : Flood) → IsSpreading lists number from first f → f.waiting.items ≡ [] → IsBetweenSearches lists number f
-spread_end lists number from first f s done = record {
-  size = s.size;
-  idle = done;
-  closed = λ a b v up l. elim (s.closed a b v up l) [ inl t ↦ t | inr w ↦ absurd (both_ways _ (ap (λ x. is_among x a) done) w) ];
-  bounded = s.bounded;
-}
 
 -- a node that waits is one that has a list
 pub spread_node : (lists : List (List ℕ)) (number from a : ℕ) (first f : Flood) (rest : List ℕ) → IsSpreading lists number from first f → f.waiting.items ≡ rest ++ a ∷ [] → a < length lists

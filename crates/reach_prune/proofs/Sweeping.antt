@@ -226,16 +226,6 @@ swept_begins way lists place old new lp s count bits rows waiting =
 -- ---- what a search does as it comes to a node
 
 module _ (node next : ℕ) (finished : Bool) (old new : Sweep) where
-  -- it was found
-  pub Comes-found : has_at old.rows node next ≡ true → new ≡ old → Comes node next finished old new
-  Comes-found h e = rw e (record {
-    size = record { count = refl; bits = refl; width = refl };
-    others = λ a b la ne. refl;
-    row = λ b. sym (ap (λ z. has_at old.rows node b || (not z && cond finished (has_at old.rows next b) (eqb b next))) h ∙ or-false (has_at old.rows node b));
-    waiting = λ n. sym (ap (λ z. is_among old.waiting.items n || (not z && (not finished && eqb n next))) h ∙ or-false (is_among old.waiting.items n));
-    left = omega arith;
-  })
-
   module _ (h : has_at old.rows node next ≡ false) (size : IsSameSize new.rows old.rows) (ln : node < old.rows.count) where
     -- what is new in the row of the node
     row_with : (fresh : ℕ → Bool) → ((r b : ℕ) → r < old.rows.count → has_at new.rows r b ≡ (has_at old.rows r b || (eqb r node && fresh b)))

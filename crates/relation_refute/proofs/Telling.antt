@@ -1,6 +1,6 @@
 -- What the cells tell, round by round.
 use Rattle.std.proofs.Common.{◌≡◌, ℕ, suc, ◌<◌, ◌≤◌, Bool, true, false, cond, not, ◌&&◌, ◌||◌, eqb, ltb, leb, List, arith, sym, ap, ◌∙◌, inl, inr}
-use Rattle.std.proofs.lemmas.Bool.{and_from, and_left, and_right, and_parts, both_ways, cases_Bool, cases_eq, cases_lt, cond-true, cond-false, eq-eqb, le-leb, le-ltb}
+use Rattle.std.proofs.lemmas.Bool.{and_from, and_left, and_right, both_ways, cases_Bool, cases_eq, cases_lt, cond-true, cond-false, eq-eqb, le-leb, le-ltb}
 use Rattle.std.proofs.lemmas.Bool.{leb-true, lt-ltb, ne_eqb, false_from_ne_true, or_cases, or_left, or_parts}
 use Rattle.std.proofs.Math.Bool.{not-not}
 use Rattle.bit_rows.specs.Tables.{PlainRows, has_at}
@@ -29,12 +29,6 @@ beyond i j lt = false_from_ne_true (leb i j) (λ h. (let le = leb-true i j h in 
 
 module _ (v : View) (reach : ℕ → ℕ → Bool) (k : ℕ) (old new : ℕ → ℕ → ℕ) (tells : Tells v reach k old)
     (step : (m n : ℕ) → Pair v m n → new m n ≡ cond (eqb (old m n) 0 && gone_after v reach (suc k) m n) (suc k) (old m n)) where
-  went_later : (m n r : ℕ) → r ≤ k → gone_after v reach r m n ≡ true → Pair v m n → gone_after v reach k m n ≡ true
-  went_later m n r le h p =
-      let parts = and_parts (ltb 0 (old m n)) (leb (old m n) r) (sym (tells.gone m n r p le) ∙ h) in
-      let by = leb-true (old m n) r parts.1 in
-      tells.gone m n k p (omega arith) ∙ and_from _ _ parts.0 (le-leb (old m n) k (omega (arith, by, le)))
-
   -- a pair goes in this round
   now_gone : (m n : ℕ) → Pair v m n → old m n ≡ 0 → gone_after v reach (suc k) m n ≡ true → (new m n ≤ suc k) × ((r : ℕ) → r ≤ suc k → gone_after v reach r m n ≡ (ltb 0 (new m n) && leb (new m n) r))
   now_gone m n p none e =

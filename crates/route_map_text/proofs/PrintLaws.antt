@@ -9,7 +9,6 @@ use Rattle.config_base.specs.declared.config.RouterConfig.{RouterConfig}
 use Rattle.config_base.specs.declared.config.Session.{Session}
 use Rattle.config_lines.specs.declared.line.Line.{Line}
 use Rattle.config_lines.specs.declared.line.Line.TheVariants as line
-use Rattle.config_text.specs.ConfigLines.{head_of, import_of}
 use Rattle.route_maps.specs.declared.maps.ListLine.{ListLine}
 use Rattle.route_maps.specs.Maps.{PlainMaps}
 use Rattle.route_map_text.specs.declared.line.MapLine.{MapLine}
@@ -61,17 +60,6 @@ list_more lists i n x d whole now next h this so_far added =
     ∙ ap (λ (t : List ℕ). t ++ flat_map fed (lines_of_lists (n + 1) (drop (i + 1) lists))) (sym added)
 
 -- ---- blocks by their parts
-
-pub session_made : (s : Session) (old head ins outs : List ℕ) → head ≡ old ++ fed (written.Block (head_of s)) → ins ≡ head ++ flat_map fed (numbered 10 (map (import_of s.peer) s.imports))
-    → outs ≡ ins ++ flat_map fed (numbered 10 (map line.Export s.exports)) → outs ≡ old ++ flat_map fed (lines_of_session s)
-session_made s old head ins outs a b c =
-    let is = numbered 10 (map (import_of s.peer) s.imports) in
-    let es = numbered 10 (map line.Export s.exports) in
-    let h = fed (written.Block (head_of s)) in
-    c ∙ ap (λ (t : List ℕ). t ++ flat_map fed es) (b ∙ ap (λ (t : List ℕ). t ++ flat_map fed is) a)
-    ∙ append_assoc (old ++ h) (flat_map fed is) (flat_map fed es)
-    ∙ append_assoc old h (flat_map fed is ++ flat_map fed es)
-    ∙ ap (λ (t : List ℕ). old ++ (h ++ t)) (sym (flat_map-append fed is es))
 
 pub router_made : (r : RouterConfig) (old head owns sessions end : List ℕ) → head ≡ old ++ fed (written.Block (line.Router r.name r.asn r.id))
     → owns ≡ head ++ flat_map (λ o. fed (network_of o)) r.own → sessions ≡ owns ++ flat_map (λ (s : Session). flat_map fed (lines_of_session s)) r.sessions → end ≡ sessions ++ codes "end\n"

@@ -1,7 +1,7 @@
 -- What was sent to one sink, where nothing was to go to the other.
 use Rattle.std.proofs.Common.{◌≡◌, ℕ, List, [], Option, Some, None, inl, inr, refl, sym, ap, append-nil}
 use Rattle.input_output.specs.Outside.{Grew}
-use Rattle.run_base.specs.Said.{Said, Whole, Sent, Delivered, text, line}
+use Rattle.run_base.specs.Said.{Whole, Sent, Delivered, text, line}
 use Rattle.run_base.specs.declared.outcome.Status.{Status}
 
 Grew-nothing : (t : Option (List ℕ)) → Grew t t []
@@ -19,7 +19,3 @@ module _ {O E : Type 0} (ot : O → Option (List ℕ)) (of : O → ℕ) (et : E 
   pub to_err : (status : Status) → Sent et ef bytes status err err' ended → Delivered ot of et ef (line status bytes) out out err err' ended
   to_err status (inl h) = inl (h.0, untouched ot out, h.1, refl, h.2)
   to_err status (inr h) = inr (h.0, inr (untouched ot out, h.1, refl))
-
-  -- where what is to be said is a line, by an equation
-  pub to_err_is : (what : Said) (status : Status) → what ≡ line status bytes → Sent et ef bytes status err err' ended → Delivered ot of et ef what out out err err' ended
-  to_err_is what status is h = rw is (to_err status h)

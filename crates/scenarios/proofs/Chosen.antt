@@ -1,14 +1,11 @@
 -- What is known of choices as far as a loop over the links has come.
-use Rattle.std.proofs.Common.{◌≡◌, ℕ, ◌+◌, ◌<◌, Bool, true, false, List, length, get_or, take, Some, refl, sym, ap, ap₂, ◌∙◌, inl, inr, arith}
+use Rattle.std.proofs.Common.{◌≡◌, ℕ, ◌+◌, ◌<◌, Bool, true, false, List, length, get_or, take, refl, sym, ap, ap₂, ◌∙◌, inl, inr}
 use Rattle.std.specs.Prelude.{◌&&◌, ◌||◌, ◌==◌}
 use Rattle.std.specs.List.{list_any}
 use Rattle.std.specs.Option.{option_map_or}
 use Rattle.std.proofs.Math.Bool.{or-false}
 use Rattle.std.proofs.lemmas.Bool.{and_parts, cases_eq, eq-eqb, eqb-true, false_from_ne_true}
-use Rattle.std.proofs.lemmas.Option.{slice_get-get_or}
-use Rattle.list_law.proofs.Each.{AllByRecursion_at}
 use Rattle.list_law.proofs.Numbers.{eqb_comm}
-use Rattle.net_base.specs.Network.{PlainNet, IsLink, IsNet}
 use Rattle.scenarios.specs.Tests.{far_end}
 use Rattle.scenarios.proofs.LinkMarks.{any_next}
 
@@ -57,9 +54,3 @@ module _ (t : ℕ → ℕ → Bool) (links : List (ℕ × ℕ)) (i : ℕ) (link 
   told_more before after was grown r =
       grown r ∙ ap (λ b. (b || (r == link.0 && t link.1 link.0)) || (r == link.1 && t link.0 link.1)) (was r)
       ∙ both_ends t link r (list_any (tells r) (take i links)) ∙ sym (any_next (tells r) links i link within is)
-
--- the ends of a link are locations
-pub ends_low : (net : PlainNet) → IsNet net → (i : ℕ) (link : ℕ × ℕ) → i < length net.links → link ≡ get_or net.links i link → (link.0 < 768) × (link.1 < 768)
-ends_low net rules i link within is =
-    let at = AllByRecursion_at (IsLink net) net.links i link rules.links (slice_get-get_or net.links i link within ∙ ap (λ l. Some l) (sym is)) in
-    (omega (arith, at.0, at.1, rules.routers, rules.peers), omega (arith, at.1, rules.routers, rules.peers))

@@ -1,12 +1,12 @@
 -- What the tests of routes tell.
-use Rattle.std.proofs.Common.{◌≡◌, ℕ, Bool, true, List, Option, Some, None, refl, sym, ap, ◌∙◌, IsTrue}
+use Rattle.std.proofs.Common.{◌≡◌, true, Option, Some, None, refl, sym, ap, ◌∙◌}
 use Rattle.std.specs.Prelude.{◌==◌, ◌↔◌}
 use Rattle.std.specs.Str.{bytes_eq}
 use Rattle.std.proofs.lemmas.Bool.{and_parts, eqb-true, eq-eqb}
 use Rattle.std.proofs.lemmas.Slice.Eq.{bytes_eq-Decides}
 use Rattle.config_base.specs.declared.route.Route.{Route}
 use Rattle.config_base.specs.Lines.{same_tag}
-use Rattle.scenarios.specs.Tests.{same_route, is_route, is_path}
+use Rattle.scenarios.specs.Tests.{same_route, is_route}
 use Rattle.config_base.proofs.SameTags.{same_tag-is}
 
 same_route-is : (g h : Route) → same_route g h ≡ true → g ≡ h
@@ -27,12 +27,3 @@ is_route-is (Some g) h same = ap (λ r. Some r) (same_route-is g h same)
 
 pub is_route-refl : (o : Option Route) (h : Route) → o ≡ Some h → is_route o h ≡ true
 is_route-refl o h is = ap (λ p. is_route p h) is ∙ same_route-refl h
-
--- the test tells whether this is the route
-pub is_route_tells : (o : Option Route) (h : Route) (b : Bool) → b ≡ is_route o h → IsTrue b ↔ (o ≡ Some h)
-is_route_tells o h b is = (λ t. is_route-is o h (sym is ∙ t), λ e. is ∙ is_route-refl o h e)
-
--- the test tells whether this is the path
-pub is_path_tells : (o : Option (List ℕ)) (path : List ℕ) (b : Bool) → b ≡ is_path o path → IsTrue b ↔ (o ≡ Some path)
-is_path_tells None path b is = (λ t. absurd (cc), λ e. absurd (cc))
-is_path_tells (Some offer) path b is = (λ t. ap (λ q. Some q) (sym ((bytes_eq-Decides path offer).0 (sym is ∙ t))), λ e. is ∙ (bytes_eq-Decides path offer).1 (cc))

@@ -66,10 +66,6 @@ bound_each g left touched each n m ln lm e place = elim (cases_Bool (asks_later 
       | inr other ↦ or_left _ _ other
     ]
 
-pub bound_first : (g : PlainGraph) (claimed : LocSet) (left next : PlainRows) (touched : ℕ → Bool) → AtRound (view_of g claimed) (λ a b. false) 0 left next touched → AreBound g left
-bound_first g claimed left next touched at m n lm ln place =
-    or_left _ _ (at.exact m n lm ln ∙ ap (λ z. z && true) (pair_to (view_of g claimed) m n (record { left = lm; right = ln; place = place })))
-
 pub bound_next : (g : PlainGraph) (old new : PlainRows) (touched : List Bool) → AreBound g old
     → ((n b : ℕ) → n < length g.nodes → b < length g.nodes → is_touched touched n ≡ false → has_at new n b ≡ has_at old n b) →
     ((n m : ℕ) → n < length g.nodes → m < length g.nodes → is_touched touched n ≡ true → place_of g m ≡ place_of g n → has_either new m n ≡ true) → AreBound g new

@@ -3,7 +3,7 @@ use Rattle.std.proofs.Common.{◌≡◌, ℕ, ◌<◌, ◌≤◌, Bool, true, fa
 use Rattle.std.specs.Prelude.{not}
 use Rattle.std.specs.List.{list_any}
 use Rattle.std.specs.Option.{option_map_or}
-use Rattle.std.proofs.lemmas.Bool.{and_parts, and_from, not-true, not_from_false, true≢false}
+use Rattle.std.proofs.lemmas.Bool.{and_parts, not-true, true≢false}
 use Rattle.net_base.specs.Sets.{holds}
 use Rattle.policy_base.specs.Policies.{policy_of}
 use Rattle.policy_base.specs.Governing.{is_origin}
@@ -15,7 +15,7 @@ use Rattle.scenarios.specs.Tests.{far_end, is_route}
 use Rattle.scenarios.specs.declared.choice.Choices.{Choices}
 use Rattle.scenarios.specs.declared.situation.Situation.{Situation}
 use Rattle.scenarios.proofs.Choosing.{giver, has_giver}
-use Rattle.table_audit.specs.declared.verdict.AuditVerdict.TheVariants.{Dead, Own, NotGiven, Better, Missing}
+use Rattle.table_audit.specs.declared.verdict.AuditVerdict.TheVariants.{NotGiven, Better, Missing}
 use Rattle.table_audit.specs.Situated.{IsFaultIn, IsTopGiverIn, is_choosing_in}
 
 module _ (s : Situation) (r : ℕ) where
@@ -50,35 +50,6 @@ module _ (s : Situation) (r : ℕ) where
       }
 
   -- ---- a router that isn't settled
-
-  pub has_route : (IsSettledIn s r → ⊥) → dead ≡ true → IsFaultIn s r (Some (Dead r))
-  has_route never d = (
-    refl,
-    (
-      d,
-      λ none. never (record {
-        dead = λ e. none;
-        own = λ own. absurd (true≢false (sym d ∙ not-true _ (and_parts origin (not dead) own).1));
-        chooses = λ c. absurd (true≢false (sym d ∙ not-true _ (and_parts (not origin) (not dead) c).1));
-      }),
-    ),
-  )
-
-  pub own_lost : (IsSettledIn s r → ⊥) → dead ≡ false → origin ≡ true → IsFaultIn s r (Some (Own r))
-  own_lost never live own = (
-    refl,
-    (
-      and_from origin (not dead) own (not_from_false _ live),
-      λ held. never (record {
-        dead = λ d. absurd (true≢false (sym d ∙ live));
-        own = λ o. held;
-        chooses = λ c. absurd (true≢false (sym own ∙ not-true _ (and_parts (not origin) (not dead) c).0));
-      }),
-    ),
-  )
-
-  pub choosing_from : dead ≡ false → origin ≡ false → is_choosing_in s r ≡ true
-  choosing_from live other = and_from (not origin) (not dead) (not_from_false _ other) (not_from_false _ live)
 
   -- ---- its choice
 

@@ -76,9 +76,6 @@ better_is (Some best) z pref t h = elim (cases_Bool (rises best z pref)) [
 ]
 
 module _ (gives : ℕ → Option Route) (at : ℕ) (links : List (ℕ × ℕ)) where
-  pub nothing_yet : IsTopUntil gives at links 0 None
-  nothing_yet = record { gift = λ t h. absurd (cc); over = λ j z link g low. absurd (omega (arith, low)) }
-
   module _ (i : ℕ) (top : Top) (link : ℕ × ℕ) (here : slice_get links i ≡ Some link) (x : IsTopUntil gives at links i top) where
     -- what holds of the links before and of this one holds of all up to it
     both : (new : Top) → ((z : ℕ) (g : Route) → Over top z g.pref → Over new z g.pref) → ((z : ℕ) (g : Route) → far_end at link ≡ Some z → gives z ≡ Some g → Over new z g.pref)

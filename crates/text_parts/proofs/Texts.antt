@@ -1,5 +1,5 @@
 -- Two texts that are gone over byte by byte.
-use Rattle.std.proofs.Common.{◌≡◌, ℕ, suc, ◌+◌, ◌<◌, ◌≤◌, List, [], ◌∷◌, length, get_or, drop, true, false, refl, ◌∙◌, arith, min, inl, inr, length-drop}
+use Rattle.std.proofs.Common.{◌≡◌, ℕ, suc, ◌+◌, ◌<◌, ◌≤◌, List, [], ◌∷◌, length, get_or, drop, true, refl, ◌∙◌, arith, min, inl, inr, length-drop}
 use Rattle.std.specs.Prelude.{◌==◌}
 use Rattle.std.proofs.Math.Seq.{drop-cons}
 use Rattle.std.proofs.lemmas.Bool.{cases_lt}
@@ -14,12 +14,6 @@ module _ (xs ys : List ℕ) (i k : ℕ) (in_x : i < length xs) (in_y : i < lengt
 
   cut : difference_from k (drop i xs) (drop i ys) ≡ difference_from k (a ∷ drop (i + 1) xs) (b ∷ drop (i + 1) ys)
   cut = let next : i + 1 ≡ suc i = omega arith in rw (next, drop-cons xs i 0, drop-cons ys i 0) refl
-
-  pub apart_here : (a == b) ≡ false → difference_from k (drop i xs) (drop i ys) ≡ k
-  apart_here off = cut ∙ rw off refl
-
-  pub alike_here : (a == b) ≡ true → (a == 10) ≡ false → difference_from k (drop i xs) (drop i ys) ≡ difference_from k (drop (i + 1) xs) (drop (i + 1) ys)
-  alike_here same other = cut ∙ rw (same, other) refl
 
   pub line_here : (a == b) ≡ true → (a == 10) ≡ true → difference_from k (drop i xs) (drop i ys) ≡ difference_from (k + 1) (drop (i + 1) xs) (drop (i + 1) ys)
   line_here same line = let next : k + 1 ≡ suc k = omega arith in cut ∙ rw (same, line, next) refl

@@ -5,7 +5,7 @@ use Rattle.std.proofs.lemmas.Bool.{cases_lt}
 use Rattle.std.proofs.lemmas.List.{take_more}
 use Rattle.std.proofs.lemmas.Option.{get_or_from_slice_get, same_Some, slice_get_within}
 use Rattle.list_law.specs.Members.{IsIn}
-use Rattle.list_law.proofs.Members.{IsIn-append_left, IsIn-push, IsIn-push_cases, IsIn-nil}
+use Rattle.list_law.proofs.Members.{IsIn-append_left, IsIn-push, IsIn-push_cases}
 use Rattle.list_law.proofs.Options.{option_map_parts}
 use Rattle.graph_base.specs.Graphs.{PlainGraph, IsGraph}
 use Rattle.graph_base.specs.Runs.{rank_at, run}
@@ -21,9 +21,6 @@ use Rattle.walk_check.specs.WaysOf.{both_sizes}
 use Rattle.walk_check.proofs.Followed.{AreWaysOf, follow-run}
 
 module _ (t g : PlainGraph) where
-  pub least_begun : IsLeastUnlike t g [] None
-  least_begun q h = absurd (IsIn-nil q h)
-
   least_same : (pairs : List (ℕ × ℕ)) (p : ℕ × ℕ) (o : Option ℕ) → IsLeastUnlike t g pairs o → SameRank t g p → IsLeastUnlike t g (pairs ++ p ∷ []) o
   least_same pairs p None h same = λ q at. elim (IsIn-push_cases pairs p q at) [ inl old ↦ h q old | inr e ↦ subst (SameRank t g) e same ]
   least_same pairs p (Some n) h same = (

@@ -2,33 +2,19 @@
 use Rattle.std.proofs.Common.{◌≡◌, ℕ, ◌||◌, ◌&&◌, List, [], ◌∷◌, ◌++◌, sym, ap, ap₂, ◌∙◌, inl, inr}
 use Rattle.std.specs.Prelude.{◌==◌}
 use Rattle.std.specs.List.{list_any}
-use Rattle.std.proofs.Math.Bool.{or-false, or_comm}
+use Rattle.std.proofs.Math.Bool.{or_comm}
 use Rattle.std.proofs.lemmas.Bool.{cases_Bool, eq-eqb, eqb-true}
-use Rattle.std.proofs.lemmas.List.Folds.{list_any-append}
 use Rattle.net_base.specs.Network.{PlainNet, joins}
 use Rattle.net_base.specs.Sets.{holds}
-use Rattle.outcome_base.specs.Outcomes.{Failures, is_dead_link, is_silent}
+use Rattle.outcome_base.specs.Outcomes.{Failures}
 use Rattle.scenarios.specs.Scenarios.{failures_of}
 use Rattle.scenarios.specs.Surviving.{AreSurvivors}
 use Rattle.scenarios.specs.declared.scenario.Scenario.{Scenario}
 use Rattle.scenarios.specs.declared.survivors.Survivors.{Survivors}
 use Rattle.scenarios.proofs.Members.{any-members}
 use Rattle.impact_law.specs.Cuts.{with_cut}
-use Rattle.impact_law.specs.declared.impact.Cut.TheVariants.{Link, Router}
+use Rattle.impact_law.specs.declared.impact.Cut.TheVariants.{Router}
 use Rattle.whatif_report.specs.Cutting.{AreSameFailures, IsWithCut}
-
--- a link behind the others is as one in front of them
-link_failures : (s t : Scenario) (a b : ℕ) → t ≡ record s { dead_links = s.dead_links ++ (a, b) ∷ [] } → AreSameFailures (failures_of t) (with_cut (Link a b) (failures_of s))
-link_failures s t a b is = record {
-  dead = λ l. any-members t.dead l ∙ ap (λ (u : Scenario). holds u.dead l) is ∙ sym (any-members s.dead l);
-  links = λ x y.
-      ap (λ (u : Scenario). is_dead_link (failures_of u) x y) is ∙ list_any-append (joins x y) s.dead_links ((a, b) ∷ [])
-      ∙ ap (λ o. is_dead_link (failures_of s) x y || o) (or-false (joins x y (a, b))) ∙ or_comm (is_dead_link (failures_of s) x y) (joins x y (a, b));
-  silent = λ r p. ap (λ (u : Scenario). is_silent (failures_of u) r p) is;
-}
-
-pub link_besides : (s t : Scenario) (a b : ℕ) → t ≡ record s { dead_links = s.dead_links ++ (a, b) ∷ [] } → IsWithCut s (Link a b) t
-link_besides s t a b is = record { prefix = ap (λ (u : Scenario). u.prefix) is; failures = link_failures s t a b is }
 
 turned : (a b : ℕ) → (a == b) ≡ (b == a)
 turned a b = elim (cases_Bool (a == b)) [
