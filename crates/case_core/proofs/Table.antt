@@ -27,6 +27,9 @@ or_else-no : (o : Option ℕ) (n : ℕ) → or_else o false n ≡ o
 or_else-no None n = refl
 or_else-no (Some m) n = refl
 
+firsts_is : (a b : Firsts) → a.ranked ≡ b.ranked → a.unranked ≡ b.unranked → a ≡ b
+firsts_is a b ranked unranked = λ i. record { ranked = ranked i; unranked = unranked i }
+
 -- the row of the node's own location
 own_row : (g : PlainGraph) (n : ℕ) (node : Node) → place_of g n ≡ node.loc → rank_at g n ≡ node.rank → (r : ℕ) → r ≡ node.loc → row_with (firsts_below g n r) node n ≡ firsts_below g (suc n) r
 own_row g n node place rank r here =

@@ -7,13 +7,15 @@ use Rattle.policy_base.specs.declared.case.Case.{Case}
 use Rattle.policy_base.specs.Policies.{PlainStatement}
 use Rattle.graph_base.specs.Graphs.{IsGraph, PlainGraph}
 use Rattle.graph_base.specs.Runs.{place_of, rank_at}
+use Rattle.graph_base.specs.Walks.{IsEnteredFromBefore}
 use Rattle.evidence_law.specs.Faithful.{IsFaithful}
 use Rattle.evidence_law.specs.Passes.{IsClaimed}
 use Rattle.node_quotient.specs.Quotient.{AreAllToldApart, IsQuotient}
-use Rattle.quotient_law.proofs.Faith.{quotient_is_faithful, quotient_ranked}
+use Rattle.quotient_law.proofs.Faith.{quotient_entered, quotient_is_faithful, quotient_ranked}
 use Rattle.quotient_law.proofs.One.{one_quotient, quotient_is_graph}
 use Rattle.quotient_law.proofs.Reduced.{quotient_told_apart}
 use Rattle.case_core.specs.Refusals.{FitsCase}
+use Rattle.case_core.proofs.Given.{made_is_entered}
 use Rattle.case_core.proofs.OneCause as graphs
 use Rattle.case_evidence.specs.Accepted.{IsGivenGraph}
 
@@ -33,6 +35,13 @@ quotient_fits net s c g q fits is numbers tags =
 module _ (net : PlainNet) (room : ℕ) (s : PlainStatement) (c : Case) where
   pub given_fits : (g : PlainGraph) (used : ℕ) → IsGivenGraph net room s c g used → FitsCase net s c g
   given_fits g used is = quotient_fits net s c is.trimmed g is.fits is.quotient
+
+  -- each of its nodes that isn't a start is entered from before, so that a walk shows it
+  pub given_entered : (g : PlainGraph) (used : ℕ) → IsGivenGraph net room s c g used → IsEnteredFromBefore g
+  given_entered g used is =
+      let of = is.fits [] [] in
+      let entered = made_is_entered net room s c is.graph.0 is.trimmed is.graph.1 in
+      subst IsEnteredFromBefore (sym is.quotient.2) (quotient_entered net (holds c.origins) c.external is.quotient.0 is.trimmed of.graph of.faithful.formed is.quotient.1 entered)
 
   pub given_told_apart : (g : PlainGraph) (used : ℕ) → IsGivenGraph net room s c g used → AreAllToldApart g
   given_told_apart g used is =

@@ -1,5 +1,5 @@
 -- Policies that say the same are served alike.
-use Rattle.std.proofs.Common.{◌≡◌, ℕ, true, length, Option, Some, None, sym, arith}
+use Rattle.std.proofs.Common.{◌≡◌, ℕ, true, length, Option, Some, None, refl, sym, arith}
 use Rattle.std.specs.Prelude.{slice_get}
 use Rattle.std.proofs.lemmas.Bool.{lt-ltb}
 use Rattle.std.proofs.lemmas.Option.{slice_get_within}
@@ -36,6 +36,9 @@ module _ (net : PlainNet) (old new : PlainPolicy) (config : PlainConfig) (f : Fa
   right_by (Some s) None at_old at_new right =
       rw at_new (bare_of_right net old new config f p outcome rules alike s at_old at_new stable (rw at_old at right) (holders_are_routers net outcome size))
   right_by (Some s) (Some t) at_old at_new right = rw at_new (right_there net old new f p s t alike at_old at_new config outcome rules stable (rw at_old at right))
+
+  right_there_too : IsRightOutcome net old config f p outcome → IsRightOutcome net new config f p outcome
+  right_there_too = right_by (statement_of old p) (statement_of new p) refl refl
 
 pub right_alike : AlikePrefixesAreRightAlike
 right_alike net old new config f p outcome rules alike size stable = (

@@ -3,7 +3,7 @@ use Rattle.std.proofs.Common.{◌≡◌, ℕ, ◌+◌, false, List, [], ◌∷�
 use Rattle.std.specs.Prelude.{◌&&◌, not, is_some, nat_le, nat_lt, if◌then◌else◌}
 use Rattle.std.specs.List.{list_any}
 use Rattle.std.proofs.lemmas.Bool.{and_cases, and_parts, cases_Bool, false_from_ne_true, leb-true, lt-ltb, ltb-true, or_parts, true≢false}
-use Rattle.list_law.proofs.Options.{none_from_not_some}
+use Rattle.list_law.proofs.Options.{is_some_from, none_from_not_some}
 use Rattle.net_base.specs.Network.{PlainNet, is_location, is_peer}
 use Rattle.net_base.specs.Prefixes.{PlainPrefix}
 use Rattle.policy_base.specs.Policies.{PlainPolicy, PlainStatement}
@@ -12,6 +12,7 @@ use Rattle.policy_base.specs.Walks.{is_walk}
 use Rattle.policy_base.specs.Governing.{governing, governing_from, is_origin, is_origin_by, originated_at, some_contains, statement_from, statement_of}
 use Rattle.policy_base.specs.Permitted.{ends_at_origin}
 use Rattle.policy_base.proofs.WalkParts.{at_last-never}
+use Rattle.impact_law.specs.Impacts.{begin_at}
 use Rattle.compare_base.specs.Cases.{is_governed, is_originated, pair_for}
 use Rattle.compare_base.specs.Ranks.{rank_for, IsAlike}
 use Rattle.compare_law.specs.Laws.{NothingSaidIsAlike}
@@ -47,6 +48,14 @@ module _ (net : PlainNet) (policy : PlainPolicy) (p : PlainPrefix) where
       true≢false (sym last ∙ at_last-never (is_origin net policy p) path none)))
 
 module _ (net : PlainNet) (old new : PlainPolicy) (p : PlainPrefix) (bare : originated_at old.origins p ≡ None) (bare_too : originated_at new.origins p ≡ None) where
+  alike_unranked : ((path : List ℕ) → is_some (rank_for net old p path) ≡ false) → ((path : List ℕ) → is_some (rank_for net new p path) ≡ false) → IsAlike net old new p
+  alike_unranked none none_too = record {
+    origins = λ l. ap (λ o. is_origin_by net o l) bare ∙ sym (ap (λ o. is_origin_by net o l) bare_too);
+    permitted = λ path. none path ∙ sym (none_too path);
+    order = λ r peer u v a b c d router at_a at_b at_c at_d.
+        absurd (true≢false (sym (is_some_from (rank_for net old p (begin_at r peer ++ u)) a at_a) ∙ none (begin_at r peer ++ u)));
+  }
+
   without_peers : nat_lt 0 (length net.peers) ≡ false → IsAlike net old new p
   without_peers none =
       alike_unranked (unranked_by_origin net old p (λ l. ap (λ o. is_origin_by net o l) bare ∙ no_peer net none l))

@@ -94,6 +94,9 @@ module _ (net : PlainNet) (rules : IsNet net) (policy : PlainPolicy) (routers : 
   pub as_many_graphs : length (graphs_of accepted) ≡ length (case_list net policy)
   as_many_graphs = length-map accepted (λ (a : AcceptedCase). a.graph) ∙ all
 
+  pub as_many_prefs : length (prefs_of accepted) ≡ length (case_list net policy)
+  as_many_prefs = length-map accepted (λ (a : AcceptedCase). a.prefs) ∙ all
+
   pub known_at : (k : ℕ) (e : PlainCaseEvidence) → slice_get evidence k ≡ Some e → IsKnown net policy e
   known_at k e at =
       let has = parts (case_list net policy) (graphs_of accepted) (prefs_of accepted) (tags_of net (graphs_of accepted)) k e at in

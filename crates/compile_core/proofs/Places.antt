@@ -2,17 +2,17 @@
 use Rattle.std.proofs.Common.{◌≡◌, ◌≢◌, ℕ, ◌+◌, ◌<◌, ◌≤◌, Bool, true, List, [], ◌∷◌, length, Option, Some, refl, sym, ap, ◌∙◌, arith, inl, inr}
 use Rattle.std.specs.Prelude.{unwrap_or, option_map, option_and_then}
 use Rattle.std.specs.List.{AllByRecursion}
-use Rattle.std.proofs.lemmas.Bool.{cases_Bool, ltb-true}
+use Rattle.std.proofs.lemmas.Bool.{cases_Bool, ltb-true, not_from_false}
 use Rattle.std.proofs.lemmas.Option.{slice_get_within}
 use Rattle.list_law.proofs.Members.{AllByRecursion-from_IsIn}
 use Rattle.net_base.specs.Network.{PlainNet, IsNet, is_location}
-use Rattle.policy_base.specs.Meaning.{PathTest, place_of as first_place}
-use Rattle.policy_base.specs.Policies.{PlainStatement}
+use Rattle.policy_base.specs.Meaning.{PathTest, alternatives, place_of as first_place, rank_of}
+use Rattle.policy_base.specs.Policies.{PlainStatement, Ranking}
 use Rattle.graph_base.specs.declared.graph.Node.{Node}
 use Rattle.graph_base.specs.Graphs.{PlainGraph, IsGraph}
 use Rattle.graph_base.specs.Runs.{place_of, rank_at, run}
 use Rattle.policy_base.specs.CaseOrigins.{AreOrigins}
-use Rattle.evidence_law.specs.Faithful.{IsFaithful}
+use Rattle.evidence_law.specs.Faithful.{IsFaithful, may_start}
 use Rattle.graph_base.proofs.StartsAndSteps.{start_at-is}
 use Rattle.graph_base.proofs.RunSteps.{last_step}
 use Rattle.graph_base.proofs.WellFormed.{linked_parts}
@@ -27,6 +27,10 @@ place_counts (p ∷ ps) path k m h = elim (cases_Bool (p path)) [
   | inr t ↦ let later : first_place ps path (k + 1) ≡ Some m = sym (rw t refl) ∙ h in omega (arith, place_counts ps path (k + 1) m later)
 ]
 
+-- a rank is counted from 1
+rank_counts : (net : PlainNet) (ranked : Ranking) (path : List ℕ) → rank_of net ranked path ≢ Some 0
+rank_counts net ranked path h = absurd (omega (arith, place_counts (alternatives net ranked) path 1 0 h))
+
 module _ (net : PlainNet) (rules : IsNet net) (s : PlainStatement) (origin : ℕ → Bool) (external : Bool) (origins : AreOrigins net origin external) (g : PlainGraph) (graph : IsGraph g)
     (faithful : IsFaithful net s origin external g) where
   -- the node in which a run ends is at a location
@@ -40,6 +44,14 @@ module _ (net : PlainNet) (rules : IsNet net) (s : PlainStatement) (origin : ℕ
 
   pub node_located : (n : ℕ) → n < length g.nodes → is_location net (place_of g n) ≡ true
   node_located n within = let ended = faithful.is_ended n within in run_at ended.0 n ended.2
+
+  node_counts : (n : ℕ) → n < length g.nodes → rank_at g n ≢ Some 0
+  node_counts n within h =
+      let ended = faithful.is_ended n within in
+      elim (cases_Bool (may_start origin s (place_of g n))) [
+        | inl t ↦ rank_counts net s.ranked ended.0 (sym (faithful.ranks ended.0 n ended.2 t) ∙ h)
+        | inr t ↦ let none = faithful.unranked n within (not_from_false _ t) in absurd cc
+      ]
 
   -- places of nodes are below 768, and their ranks aren't 0
   pub places : AllByRecursion (λ (n : Node). n.loc < 768) g.nodes

@@ -1,7 +1,9 @@
 -- What a refusal that applies names can be shown: it is in the graph of the refusal.
 use Rattle.std.proofs.Common.{ℕ, ◌+◌, ◌<◌, Bool, List, length, refl, subst}
 use Rattle.net_base.specs.Network.{PlainNet}
-use Rattle.policy_base.specs.Policies.{PlainPolicy}
+use Rattle.net_base.specs.Sets.{holds}
+use Rattle.policy_base.specs.declared.case.Case.{Case}
+use Rattle.policy_base.specs.Policies.{PlainPolicy, PlainStatement}
 use Rattle.graph_base.specs.declared.refutation.Refutation.{Refutation}
 use Rattle.graph_base.specs.declared.refutation.Removed.{Removed}
 use Rattle.graph_base.specs.declared.refutation.Why.{Why}
@@ -11,6 +13,8 @@ use Rattle.graph_base.specs.Refuting.{Refutes, Says}
 use Rattle.graph_base.specs.Walks.{IsEnteredFromBefore}
 use Rattle.case_core.specs.declared.refusal.CompileRefusal.{CompileRefusal}
 use Rattle.case_core.specs.declared.refusal.CompileRefusal.TheVariants.{TooManyRanks, TooManyStates, TooManySteps, SourceWithoutPath, MixedSource, NoEvidence, NoMemory}
+use Rattle.case_evidence.specs.Accepted.{IsCaseCause}
+use Rattle.case_evidence.proofs.Joined.{given_entered}
 use Rattle.compile_core.specs.Compiling.{IsRefusal, room_after}
 use Rattle.compile_core.proofs.OneByOne.{there}
 use Rattle.refusal_lines.specs.RefusalLines.{ReasonIsOn, ShowsRefutation, IsShowable}
@@ -35,6 +39,11 @@ shows g claimed r entered refutes =
           let j = refutes.each l is in
           record { better = j.better; worse = j.worse; reason = reason_is_on g claimed r.lines l.round l.better l.worse l.why j.reason };
     }
+
+shows_cause : (net : PlainNet) (number room : ℕ) (s : PlainStatement) (c : Case) (k : ℕ) (g : PlainGraph) (r : Refutation)
+    → IsCaseCause net number room s c (NoEvidence k g r) → ShowsRefutation g r
+shows_cause net number room s c k g r cause =
+    shows g (holds cause.2.claimed) r (given_entered net room s c g cause.1.0 cause.1.1) cause.2.refutes
 
 pub refusals_are_showable : (net : PlainNet) (policy : PlainPolicy) (e : CompileRefusal) → IsRefusal net policy e → IsShowable e
 refusals_are_showable net policy (TooManyRanks k count) is = tt

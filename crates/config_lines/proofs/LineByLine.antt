@@ -8,6 +8,10 @@ use Rattle.config_lines.specs.LineLines.{lines_of, whole_lines, last_line, line_
 use Rattle.config_lines.proofs.CutLines.{whole_lines_there, last_line_there, whole_lines_nowhere, last_line_nowhere}
 
 module _ {R F : Type 0} (with_line : ℕ → R → List ℕ → Result R F) where
+  pub line_by_line-next : (n : ℕ) (r s : R) (line : List ℕ) (more : List (List ℕ)) (whole : Result R F) → with_line n r line ≡ Ok s
+      → line_by_line with_line n r (line ∷ more) ≡ whole → line_by_line with_line (n + 1) s more ≡ whole
+  line_by_line-next n r s line more whole here h = rw here at h
+
   pub line_by_line-append : (n : ℕ) (r s t : R) (xs ys : List (List ℕ)) → line_by_line with_line n r xs ≡ Ok s
       → ((m : ℕ) → line_by_line with_line m s ys ≡ Ok t) → line_by_line with_line n r (xs ++ ys) ≡ Ok t
   line_by_line-append n r s t [] ys h k = let same : r ≡ s = ok_same r s h in ap (λ (q : R). line_by_line with_line n q ys) same ∙ k n

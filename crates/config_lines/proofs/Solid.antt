@@ -51,6 +51,13 @@ solid_name name is = solid_all is_name_byte name_byte_solid name (name_bytes nam
 pub solid_number : (n : ℕ) → n < 2 ^ 64 → solid (decimal n) ≡ true
 solid_number n wide = solid_all is_figure figure_solid (decimal n) (figures n wide)
 
+dots_solid : (a b c d : List ℕ) → solid a ≡ true → solid b ≡ true → solid c ≡ true → solid d ≡ true → solid (a ++ codes "." ++ b ++ codes "." ++ c ++ codes "." ++ d) ≡ true
+dots_solid a b c d ha hb hc hd =
+    solid_append (a ++ codes "." ++ b ++ codes "." ++ c ++ codes ".") d
+    (solid_append (a ++ codes "." ++ b ++ codes "." ++ c) (codes ".")
+    (solid_append (a ++ codes "." ++ b ++ codes ".") c
+    (solid_append (a ++ codes "." ++ b) (codes ".") (solid_append (a ++ codes ".") b (solid_append a (codes ".") ha refl) hb) refl) hc) refl) hd
+
 pub solid_address : (n : ℕ) → n < 2 ^ 32 → solid (address_text n) ≡ true
 solid_address n wide =
     dots_solid (decimal (n / 16777216)) (decimal (n / 65536 % 256)) (decimal (n / 256 % 256)) (decimal (n % 256))

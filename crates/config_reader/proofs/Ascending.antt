@@ -27,6 +27,26 @@ below_back a b h = by (nat_lt a.first b.first) (a.first == b.first) (nat_lt a.se
     by false true false false t ep eq er es et k = absurd cc
     by false false r s t ep eq er es et k = absurd cc
 
+-- what is below one that is below another is below that
+below_trans : (a b c : Key) → IsBelow a b → IsBelow b c → IsBelow a c
+below_trans a b c x y = (
+  omega (arith, x.0, y.0),
+  (λ e.
+      let ab : a.first ≡ b.first = omega (arith, x.0, y.0, e) in
+      let bc : b.first ≡ c.first = omega (arith, x.0, y.0, e) in
+      thirds (x.1 ab) (y.1 bc)),
+)
+  where
+    thirds : (a.second ≤ b.second) × (a.second ≡ b.second → a.third < b.third) → (b.second ≤ c.second) × (b.second ≡ c.second → b.third < c.third)
+        → (a.second ≤ c.second) × (a.second ≡ c.second → a.third < c.third)
+    thirds u v = (
+      omega (arith, u.0, v.0),
+      (λ f.
+          let ab : a.second ≡ b.second = omega (arith, u.0, v.0, f) in
+          let bc : b.second ≡ c.second = omega (arith, u.0, v.0, f) in
+          omega (arith, u.1 ab, v.1 bc)),
+    )
+
 -- the keys of the entries ascend, the last one below the next
 module _ {A : Type 0} (key : A → Key) where
   pub last_later : (x y : A) (xs : List A) → last_of (x ∷ y ∷ xs) ≡ last_of (y ∷ xs)

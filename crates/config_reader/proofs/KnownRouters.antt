@@ -70,6 +70,15 @@ bytes_comm a b = by (bytes_eq a b) refl
     by true e = let same = bytes_sound a b e in sym (ap (λ (x : List ℕ). bytes_eq b x) same ∙ bytes_eq_self b)
     by false e = sym (bytes_eq_apart a b e)
 
+shuffle : (a b c x y z : Bool) → (((a || x) || (b || y)) || (c || z)) ≡ ((a || (b || c)) || ((x || y) || z))
+shuffle true b c x y z = refl
+shuffle false true c true y z = refl
+shuffle false true c false y z = refl
+shuffle false false true true y z = refl
+shuffle false false true false true z = refl
+shuffle false false true false false z = refl
+shuffle false false false x y z = refl
+
 module _ (name : List ℕ) (asn id : ℕ) where
   any_of_three : (all : List RouterConfig)
       → ((list_any (λ (r : RouterConfig). nat_eq asn r.asn) all || list_any (λ (r : RouterConfig). nat_eq id r.id) all) || list_any (λ (r : RouterConfig). bytes_eq name r.name) all)

@@ -96,6 +96,16 @@ one_more count rs p are unlike good =
     parts : (r : RouterConfig) → same_router p.name p.asn p.id r ≡ false → ((r.asn == p.asn) ≡ false) × ((r.id == p.id) ≡ false) × (bytes_eq r.name p.name ≡ false)
     parts r h = by (r.asn == p.asn) (r.id == p.id) (bytes_eq r.name p.name) h
 
+-- what was read, with the open router as another
+opened_as : (r s : Reading) (o q : OpenRouter) → IsReading r → r.opened ≡ Some o → with_open r q ≡ s
+    → (closed o.router o.block).name ≡ (closed q.router q.block).name → (closed o.router o.block).asn ≡ (closed q.router q.block).asn → (closed o.router o.block).id ≡ (closed q.router q.block).id
+    → IsGood (length r.classes) (closed q.router q.block) → KnowsNames (Some q) → IsReading s
+opened_as r s o q is at made en ea ei good known =
+    let before : AreRouters (length r.classes) (r.routers ++ closed o.router o.block ∷ []) =
+    subst (λ (x : Option OpenRouter). AreRouters (length r.classes) (r.routers ++ open_routers x)) at is.routers in
+    subst IsReading made
+    (record { filled = is.filled; are = is.are; routers = replaced (length r.classes) r.routers (closed o.router o.block) (closed q.router q.block) before en ea ei good; known = known })
+
 -- the open router as it is
 pub open_good : (r : Reading) (o : OpenRouter) → IsReading r → r.opened ≡ Some o → IsGood (length r.classes) (closed o.router o.block) × KnowsNames (Some o)
 open_good r o is at =
@@ -205,6 +215,35 @@ neighbour_keeps peer r s name asn is named number o at unlike made =
             → (bytes_eq x.name name ≡ false) × AllByRecursion (λ (x : Session). bytes_eq x.name name ≡ false) xs
         by true f k later = absurd cc
         by false f k later = (bytes_eq_apart name x.name f, later k)
+
+-- a block is another of the same name
+block_as : (r s : Reading) (o : OpenRouter) (b c : Session) → IsReading r → r.opened ≡ Some o → o.block ≡ Some b → with_open r (with_block o c) ≡ s → b.name ≡ c.name
+    → (IsSession (length r.classes) b → IsSession (length r.classes) c) → IsReading s
+block_as r s o b c is at held made same keeps =
+    let now = open_good r o is at in
+    let shut : closed o.router o.block ≡ with_sessions o.router (o.router.sessions ++ b ∷ []) = ap (closed o.router) held in
+    let good : IsGood (length r.classes) (with_sessions o.router (o.router.sessions ++ b ∷ [])) = subst (IsGood (length r.classes)) shut now.0 in
+    let sessions = AllByRecursion-append_parts (IsSession (length r.classes)) o.router.sessions (b ∷ []) good.rules.sessions in
+    let names = AllByRecursion-append_parts IsNamed o.router.sessions (b ∷ []) good.parts.names in
+    let alike : map (λ (s : Session). s.name) (o.router.sessions ++ b ∷ []) ≡ map (λ (s : Session). s.name) (o.router.sessions ++ c ∷ []) =
+    map-append (λ (s : Session). s.name) o.router.sessions (b ∷ [])
+    ∙ ap (λ (n : List ℕ). map (λ (s : Session). s.name) o.router.sessions ++ n ∷ []) same
+    ∙ sym (map-append (λ (s : Session). s.name) o.router.sessions (c ∷ [])) in
+    let rules : IsRouter (length r.classes) (with_sessions o.router (o.router.sessions ++ c ∷ [])) = record {
+      number = good.rules.number;
+      identifier = good.rules.identifier;
+      own = good.rules.own;
+      own_order = good.rules.own_order;
+      sessions = AllByRecursion-push (IsSession (length r.classes)) o.router.sessions c sessions.0 (keeps sessions.1.0);
+      names = subst (IsDistinct bytes_eq) alike good.rules.names;
+    } in
+    let named : IsTrue (is_name c.name) = subst (λ (n : List ℕ). IsTrue (is_name n)) same names.1.0 in
+    let parts : HasLawfulParts (with_sessions o.router (o.router.sessions ++ c ∷ [])) =
+    record { name = good.parts.name; prefixes = good.parts.prefixes; names = AllByRecursion-push IsNamed o.router.sessions c names.0 named } in
+    opened_as r s o (with_block o c) is at made
+    (ap (λ (x : RouterConfig). x.name) shut) (ap (λ (x : RouterConfig). x.asn) shut) (ap (λ (x : RouterConfig). x.id) shut)
+    (record { rules = rules; parts = parts })
+    (now.1.0 ∙ ap (λ (x : RouterConfig). map (λ (s : Session). s.name) x.sessions) shut ∙ alike, (λ e. absurd (some_not_none e)))
 
 pub kind_same : (a b : Bool) → same_kind a b ≡ true → a ≡ b
 kind_same true true h = refl

@@ -19,7 +19,7 @@ use Rattle.config_reader.specs.declared.reading.OpenRouter.{OpenRouter}
 use Rattle.config_reader.specs.declared.reading.Reading.{Reading}
 use Rattle.config_reader.specs.Reading.{after, closed, is_next, same_kind}
 use Rattle.config_reader.proofs.Lawful.{IsReading, open_good, kind_same}
-use Rattle.config_reader.proofs.Steps.{class_ok, router_ok, own_ok, neighbour_ok, import_ok, export_ok, end_ok, with_open, new_session, with_session}
+use Rattle.config_reader.proofs.Steps.{class_ok, router_ok, own_ok, neighbour_ok, import_ok, export_ok, end_ok, with_open, router_with_own, new_session, with_session}
 use Rattle.config_reader.proofs.Steps.{with_block, session_with_import, session_with_export}
 
 -- those of the open router, without its end
@@ -96,6 +96,22 @@ router_adds r s name asn id h =
     ap so_far (sym k.2)
     ∙ sym (append_assoc cs rs (line.Router name asn id ∷ []))
     ∙ ap (λ (t : List Line). (cs ++ t) ++ line.Router name asn id ∷ []) (sym (append-nil rs) ∙ ap (λ (x : Option OpenRouter). rs ++ open_lines x) (sym none))
+
+own_adds : (r s : Reading) (own : Origination) → (o : OpenRouter) → r.opened ≡ Some o → o.router.sessions ≡ [] → o.block ≡ None
+    → with_open r (router_with_own o own) ≡ s → so_far s ≡ so_far r ++ line.Origination own ∷ []
+own_adds r s own o at alone none made =
+    ap so_far (sym made) ∙ grown r o (router_with_own o own) at (line.Origination own)
+    (ap (λ (b : Option Session). lines_before_end (closed (router_with_own o own).router b)) none
+    ∙ lines
+    ∙ ap (λ (b : Option Session). lines_before_end (closed o.router b) ++ line.Origination own ∷ []) (sym none))
+  where
+    lines : lines_before_end (router_with_own o own).router ≡ lines_before_end o.router ++ line.Origination own ∷ []
+    lines =
+        let first : Line = line.Router o.router.name o.router.asn o.router.id in
+        let owns : List Line = map line.Origination o.router.own in
+        ap (λ (ss : List Session). first ∷ (map line.Origination (o.router.own ++ own ∷ []) ++ flat_map lines_of_session ss)) alone
+        ∙ ap (λ (t : List Line). first ∷ t) (append-nil (map line.Origination (o.router.own ++ own ∷ [])) ∙ map-append line.Origination o.router.own (own ∷ []))
+        ∙ ap (λ (t : List Line). first ∷ (t ++ line.Origination own ∷ [])) (sym (append-nil owns) ∙ ap (λ (ss : List Session). owns ++ flat_map lines_of_session ss) (sym alone))
 
 neighbour_adds : (peer : Bool) (r s : Reading) (name : List ℕ) (asn : ℕ) (l : Line) → head_of (new_session name asn peer) ≡ l → (o : OpenRouter)
     → r.opened ≡ Some o → with_open r (with_session o peer name asn) ≡ s → so_far s ≡ so_far r ++ l ∷ []

@@ -22,7 +22,7 @@ use Rattle.config_lines.specs.LineText.{line_text, IsLine}
 use Rattle.config_lines.specs.Lines.{line_of}
 use Rattle.text_parts.proofs.PrefixTexts.{have_no}
 use Rattle.config_lines.proofs.WrittenForms.{IsReadAgain, class_there_by, lines_read}
-use Rattle.config_text.specs.ConfigLines.{fed, lines, lines_of_classes, import_of, lines_of_session, lines_before_end, lines_of_router}
+use Rattle.config_text.specs.ConfigLines.{fed, lines, lines_of_classes, head_of, import_of, lines_of_session, lines_before_end, lines_of_router}
 use Rattle.config_text.specs.Spelled.{IsLawful, HasLinesOf, SpellsIn}
 use Rattle.config_text.proofs.TextLines.{text_of_lines}
 use Rattle.config_reader.specs.declared.fault.ConfigFault.{ConfigFault}
@@ -78,6 +78,13 @@ flat_other f is (x ∷ xs) = AllByRecursion-append IsOther (f x) (flat_map f xs)
 import_other : (b : Bool) (r : Import) → IsOther (import_of b r)
 import_other true r = tt
 import_other false r = tt
+
+head_other : (s : Session) → IsOther (head_of s)
+head_other s = by s.peer
+  where
+    by : (b : Bool) → IsOther (if b then line.Peer s.name s.asn else line.Session s.name s.asn)
+    by true = tt
+    by false = tt
 
 session_other : (s : Session) → AllByRecursion IsOther (lines_of_session s)
 session_other s = (

@@ -2,6 +2,7 @@
 use Rattle.std.proofs.Common.{◌≡◌, ℕ, ◌+◌, Bool, true, false, not, List, [], ◌∷◌, ◌++◌, append-nil, map, filter, ap, ◌∙◌}
 use Rattle.std.specs.Prelude.{if◌then◌else◌}
 use Rattle.std.proofs.lemmas.List.{map-append}
+use Rattle.std.proofs.lemmas.List.Elements.{filter-append}
 use Rattle.net_base.specs.Locations.{numbers_below}
 use Rattle.net_base.specs.Network.{PlainNet}
 use Rattle.net_base.specs.Sets.{holds}
@@ -12,6 +13,11 @@ use Rattle.impact_law.specs.declared.impact.Cut.TheVariants.{Router}
 use Rattle.cut_ranks.specs.Lives.{link_cut, link_cuts, router_cuts}
 
 -- ---- one link more
+
+links_next : (net : PlainNet) (s : Survivors) (links : List (ℕ × ℕ)) (link : ℕ × ℕ) → link_cuts net s (links ++ link ∷ []) ≡ link_cuts net s links ++ link_cuts net s (link ∷ [])
+links_next net s links link =
+    let lives : ℕ × ℕ → Bool = λ (l : ℕ × ℕ). live_by net s l.0 l.1 in
+    ap (map link_cut) (filter-append lives links (link ∷ [])) ∙ map-append link_cut (filter lives links) (filter lives (link ∷ []))
 
 pub link_same : (net : PlainNet) (s : Survivors) (links : List (ℕ × ℕ)) (link : ℕ × ℕ) → live_by net s link.0 link.1 ≡ false → link_cuts net s (links ++ link ∷ []) ≡ link_cuts net s links
 link_same net s links link is =

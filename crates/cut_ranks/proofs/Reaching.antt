@@ -1,5 +1,5 @@
 -- What is left of the graph of a case is reached, and the best nodes of what is left are its tops.
-use Rattle.std.proofs.Common.{◌≡◌, ◌↔◌, ℕ, ◌<◌, ◌≤◌, Bool, true, List, [], ◌∷◌, length, Option, Some, None, refl, sym, ap, ◌∙◌, subst, inl, inr, arith}
+use Rattle.std.proofs.Common.{◌≡◌, ◌↔◌, ℕ, ◌<◌, ◌≤◌, Bool, true, List, [], ◌∷◌, length, Option, Some, None, refl, sym, ap, ◌∙◌, subst, inl, inr, arith, ltb-true}
 use Rattle.std.specs.Prelude.{◌&&◌, not}
 use Rattle.std.specs.Option.{option_and_then}
 use Rattle.std.proofs.lemmas.Bool.{and_from, and_parts, cases_lt}
@@ -56,6 +56,17 @@ module _ (net : PlainNet) (c : PlainCaseEvidence) (f : Failures) (marked : ℕ �
             let same : b.0 ≡ n = cc in
             subst (λ k. number_at c m ≤ number_at c k) same b.2;
       }
+
+  best_are_tops : AreTops net f c (entry_at best)
+  best_are_tops = record {
+    some = top_at;
+    none = λ r router e n at.
+        let l = all r n at in
+        let low = ltb-true r (length net.routers) router in
+        let b = are.over n l.1 l.2 (omega (arith, low, l.0)) in
+        let clash : None ≡ Some b.0 = sym e ∙ sym (ap (entry_at best) l.0) ∙ b.1 in
+        absurd (cc);
+  }
 
 -- ---- what failures leave, where h is f with k besides, and t tells what lives by f
 
@@ -128,7 +139,13 @@ module _ (net : PlainNet) (s : PlainStatement) (c : PlainCaseEvidence) (f k h : 
     run_inside g on.graph (r ∷ at.0) n at.1,
     left r n at.0 at.1 (run-survives net h (holds c.case.origins) c.case.external g on.graph formed r n at.0 at.1 at.2),
   )
+
   -- ---- so the best of what is left are tops
+
+  tops_opened : (marked : ℕ → Bool) (best : List (Option ℕ)) → ((n : ℕ) → n < length g.nodes → (marked n ≡ true) ↔ IsLeft opened k n)
+      → AreBest c marked (length net.routers) (length g.nodes) best → AreTops net h c (entry_at best)
+  tops_opened marked best exact are =
+      best_are_tops net c h marked best (λ n low mark. reached n ((exact n low).0 mark)) (λ r n at. let l = stands r n at in (l.0, l.1, (exact n l.1).1 l.2)) are
 
 pub are_tops : (net : PlainNet) (s : PlainStatement) (c : PlainCaseEvidence) (f k h : Failures) (remains : PlainGraph) → IsCaseGraph net s c → IsBesides f k h → IsOpened net f c.graph remains
     → (marked : ℕ → Bool) (best : List (Option ℕ)) → ((n : ℕ) → n < length remains.nodes → (marked n ≡ true) ↔ IsLeft remains k n)

@@ -95,6 +95,10 @@ module _ {R : Type 0} (net : Speakers R) (w : World R) where
   heard_stays (Link a b) x y off = cond-false (joins a b x y) None (w.heard x y) off
   heard_stays (Router r) x y off = cond-false (touches r x y) None (w.heard x y) off
 
+  queued_stays : (cut : Cut) (x y : ℕ) → touched cut x y ≡ false → (failed net cut w).queued x y ≡ w.queued x y
+  queued_stays (Link a b) x y off = cond-false (joins a b x y) None (w.queued x y) off
+  queued_stays (Router r) x y off = cond-false (touches r x y) None (w.queued x y) off
+
   exported_stays : (cut : Cut) (x y : ℕ) → is_cut cut x ≡ false → exported net (failed net cut w) x y ≡ exported net w x y
   exported_stays (Link a b) x y other = refl
   exported_stays (Router r) x y other =

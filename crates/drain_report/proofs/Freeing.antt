@@ -1,5 +1,5 @@
 -- What is free is what nothing goes over.
-use Rattle.std.proofs.Common.{◌≡◌, ℕ, true, false, List, ◌∷◌, length, Some, None, sym, ap, ap₂, ◌∙◌, inl, inr, subst}
+use Rattle.std.proofs.Common.{◌≡◌, ℕ, true, false, List, ◌∷◌, length, Some, None, refl, sym, ap, ap₂, ◌∙◌, inl, inr, subst}
 use Rattle.std.specs.Prelude.{not}
 use Rattle.std.proofs.lemmas.Bool.{and_from, and_parts, cases_Bool, false_from_ne_true, not-true, not_from_false, true≢false}
 use Rattle.list_law.proofs.Changed.{filter_same}
@@ -12,7 +12,7 @@ use Rattle.config_base.specs.Configs.{PlainConfig}
 use Rattle.evidence_base.specs.Made.{PlainCaseEvidence}
 use Rattle.evidence_law.specs.Passes.{Passes}
 use Rattle.evidence_law.proofs.Hops.{begins, offer_parts}
-use Rattle.outcome_base.specs.Outcomes.{Failures, Outcome, is_live, offered}
+use Rattle.outcome_base.specs.Outcomes.{Failures, Outcome, is_live, offered, sent}
 use Rattle.settled_law.specs.Settled.{IsFullyStable}
 use Rattle.impact_law.specs.Cuts.{is_cut, live_cuts, with_cut}
 use Rattle.impact_law.specs.declared.impact.Cut.{Cut}
@@ -25,6 +25,15 @@ use Rattle.drain_report.proofs.Keeping.{after as left, after-size, others_hold, 
 use Rattle.drain_report.proofs.Moving.{cuts_on_a_route_move_it}
 
 -- ---- offers
+
+-- what a peer is offered over what the cut spares is what it was
+same_offered : (net : PlainNet) (policy : PlainPolicy) (config : PlainConfig) (f g : Failures) (p : PlainPrefix) (a b : Outcome) (r peer : ℕ) → is_live net g r peer ≡ is_live net f r peer
+    → sent net policy config g p a r peer ≡ sent net policy config f p b r peer → offered net policy config g p a r peer ≡ offered net policy config f p b r peer
+same_offered net policy config f g p a b r peer live same = rw (same, live) refl
+
+not_offered : (net : PlainNet) (policy : PlainPolicy) (config : PlainConfig) (f : Failures) (p : PlainPrefix) (outcome : Outcome) (r peer : ℕ) → is_live net f r peer ≡ false
+    → offered net policy config f p outcome r peer ≡ None
+not_offered net policy config f p outcome r peer dead = rw dead refl
 
 module _ (net : PlainNet) (policy : PlainPolicy) (config : PlainConfig) (f : Failures) (p : PlainPrefix) (rules : IsNet net) (cut : Cut) (before : Outcome)
     (size : length before ≡ length net.routers) (settled : IsFullyStable net policy config f p before) where
@@ -103,6 +112,7 @@ free_is_unused net policy config cs rules fits passes p f cut outcome prefix siz
 drain_of : List Cut → ℕ → Drain
 drain_of free live = record { free = free; live = live }
 
+same_drain : (a b : Drain) → a.free ≡ b.free → a.live ≡ b.live → a ≡ b
 unfolding drain_of
 same_drain a b one other = ap₂ drain_of one other
 

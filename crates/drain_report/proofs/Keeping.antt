@@ -28,6 +28,10 @@ pub same_sent : (net : PlainNet) (policy : PlainPolicy) (config : PlainConfig) (
 same_sent net policy config (Link x y) f p a b z r e = rw e refl
 same_sent net policy config (Router x) f p a b z r e = rw e refl
 
+same_given : (net : PlainNet) (policy : PlainPolicy) (config : PlainConfig) (f g : Failures) (p : PlainPrefix) (a b : Outcome) (z r : ℕ) → is_live net g z r ≡ true → is_live net f z r ≡ true
+    → sent net policy config g p a z r ≡ sent net policy config f p b z r → given net policy config g p a z r ≡ given net policy config f p b z r
+same_given net policy config f g p a b z r one other same = rw (same, one, other) refl
+
 -- nobody but a router holds a route
 pub none_outside : (net : PlainNet) (outcome : Outcome) (r : ℕ) → length outcome ≡ length net.routers → is_router net r ≡ false → route_at outcome r ≡ None
 none_outside net outcome r size other = ap (option_and_then (λ (o : Option Route). o)) (slice_get_past outcome r (omega (arith, ltb-false _ _ other, size)))

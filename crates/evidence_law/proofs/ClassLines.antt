@@ -1,6 +1,6 @@
 -- The lines of a class say what the steps of its graph say.
-use Rattle.std.proofs.Common.{◌≡◌, ℕ, suc, Bool, true, false, List, [], Some, refl, sym, ap, ◌∙◌, inl, inr, subst}
-use Rattle.std.specs.Prelude.{◌↔◌, ◌||◌, ◌==◌, slice_get, if◌then◌else◌}
+use Rattle.std.proofs.Common.{◌≡◌, ℕ, suc, Bool, true, false, List, [], Option, Some, refl, sym, ap, ◌∙◌, inl, inr, subst}
+use Rattle.std.specs.Prelude.{◌↔◌, ◌||◌, ◌==◌, option_map, slice_get, if◌then◌else◌}
 use Rattle.std.proofs.lemmas.Bool.{and_parts, and_from, or_cases, or_left, eqb-true, eq-eqb, true≢false}
 use Rattle.std.proofs.lemmas.Map.Keys.{any_passes_from_place}
 use Rattle.net_base.specs.declared.numbers.Tag.{Tag}
@@ -162,6 +162,9 @@ module _ (net : PlainNet) (policy : PlainPolicy) (cs : List PlainCaseEvidence) (
 
   next_same : (n a v m l : ℕ) → a ≡ n → step_at c.graph n v ≡ Some m → step_at c.graph a v ≡ Some l → l ≡ m
   next_same n a v m l same here there = one_next n v m l here (ap (λ x. step_at c.graph x v) (sym same) ∙ there)
+
+  given_pair : (o : Option (Tag × ℕ)) (l m : ℕ) → o ≡ Some (tag_at c l, number_at c l) → l ≡ m → option_map gift_of o ≡ Some (pair_of (tag_at c m), number_at c m)
+  given_pair o l m h same = ap (option_map gift_of) h ∙ ap (λ x. Some (pair_of (tag_at c x), number_at c x)) same
 
   pub imports : (u v n m : ℕ) → is_router net u ≡ true → is_router net v ≡ true → Over u v n m
       → (lines_of net config p (suc k)).imported v u (pair_of (tag_at c n)) ≡ Some (pair_of (tag_at c m), number_at c m)

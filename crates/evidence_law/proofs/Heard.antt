@@ -5,7 +5,7 @@ use Rattle.std.specs.Option.{option_and_then}
 use Rattle.std.proofs.lemmas.Bool.{and_parts, cases_Bool, true≢false}
 use Rattle.list_law.proofs.Options.{cases_Option}
 use Rattle.net_base.specs.declared.numbers.Tag.{Tag}
-use Rattle.net_base.specs.Network.{PlainNet, IsNet, is_peer, is_router}
+use Rattle.net_base.specs.Network.{PlainNet, IsNet, is_location, is_peer, is_router}
 use Rattle.net_base.specs.Numbers.{no_tag}
 use Rattle.net_base.specs.Prefixes.{PlainPrefix}
 use Rattle.net_base.proofs.RoutersAndPeers.{router_known, router_no_peer, peer_no_router, router_or_peer}
@@ -16,7 +16,7 @@ use Rattle.config_base.specs.Configs.{PlainConfig}
 use Rattle.config_base.specs.Lines.{class_of, block_at, import_of, export_of}
 use Rattle.outcome_base.specs.Outcomes.{Failures, Outcome, is_dead, is_silent, is_live, route_at, sent, given}
 use Rattle.evidence_law.proofs.Setting.{network_of, alive_of, lines_of, lines_at, line_of, gift_of}
-use Rattle.evidence_law.proofs.Loops.{import_from_peer}
+use Rattle.evidence_law.proofs.Loops.{import_from_router, import_from_peer}
 use Rattle.routing_law.specs.Network as law
 use Rattle.routing_law.specs.Lines as line
 use Rattle.net_base.proofs.Links.{linked_known}
@@ -107,6 +107,20 @@ module _ (net : PlainNet) (policy : PlainPolicy) (config : PlainConfig) (f : Fai
       ]
 
   -- ---- the two are the same
+
+  extended_same : (u v : ℕ) (h : Route) → is_live net f u v ≡ true → is_peer net u ≡ false → is_router net u ≡ true → is_location net v ≡ true
+      → route_at outcome u ≡ Some h → export_of net config class u v h.tag ≡ Some h.tag → Same u v
+  extended_same u v h live off router known route sends =
+      let takes = import_from_router net config class v u h.path h.tag rules known off in
+      let out = sent-permitted u v h h.tag off route sends in
+      let there = heard-extended u v live off router h h.tag route sends in
+      elim (cases_Bool (law.stands_on v h.path)) [
+        | inl t ↦ rw (given-refused u v h.path h.tag live out (takes ∙ rw t refl), there, t) refl
+        | inr t ↦ elim (cases_Option (import_of net config class v u [] h.tag)) [
+          | inl e ↦ rw (given-refused u v h.path h.tag live out (takes ∙ rw (e, t) refl), there, e, t) refl
+          | inr e ↦ rw (given-taken u v h.path h.tag e.0 live out (takes ∙ rw (e.1, t) refl), there, e.1, t) refl
+        ]
+      ]
 
   from_router : (u v : ℕ) → is_live net f u v ≡ true → is_peer net u ≡ false → is_router net u ≡ true → is_router net v ≡ true → Same u v
   from_router u v live off router to = elim (cases_Option (route_at outcome u)) [

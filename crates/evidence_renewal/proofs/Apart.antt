@@ -6,7 +6,7 @@ use Rattle.std.proofs.lemmas.Bool.{and_from, both_ways, eq-eqb}
 use Rattle.list_law.specs.Members.{IsIn}
 use Rattle.list_law.proofs.Members.{IsIn-append_left, IsIn-append_right, IsIn-flat_map, IsIn-map, list_any-from_IsIn}
 use Rattle.net_base.specs.declared.numbers.Tag.{Tag}
-use Rattle.net_base.specs.Network.{PlainNet}
+use Rattle.net_base.specs.Network.{PlainNet, is_peer}
 use Rattle.net_base.specs.Locations.{neighbours}
 use Rattle.net_base.specs.Numbers.{is_tag, no_tag}
 use Rattle.net_base.proofs.NumberRanges.{tag-range}
@@ -64,6 +64,17 @@ module _ (net : PlainNet) (ds : List PlainCaseEvidence) where
   asked : (b : Bool) (case : PlainCaseEvidence) (class node : ℕ) (t asks : Tag) → case_at ds class ≡ Some case → asks ≡ (if b then no_tag else tag_at case node) → asks ≡ t → IsTrue (is_tag t) → IsNodeTag t
   asked true case class node t asks at is same fits = absurd (let none : t ≡ no_tag = sym same ∙ is in let range = tag-range t fits in omega (arith, ap (λ (x : Tag). x.value) none, range.2))
   asked false case class node t asks at is same fits = record { class = class; case = case; node = node; at = at; is = sym same ∙ is }
+
+  by_block : (x z : ℕ) (b : Session) (t : Tag) → IsTrue (is_tag t) → IsBlock net ds x z b → StandsBy b t → IsNodeTag t
+  by_block x z b t fits block (inl (i, is, inl asks)) =
+      let from = (block.imports i).0 is in
+      asked (is_peer net z) from.case i.class from.node t i.tag from.step.at_class from.tag asks fits
+  by_block x z b t fits block (inl (i, is, inr sets)) =
+      let from = (block.imports i).0 is in
+      record { class = i.class; case = from.case; node = from.next; at = from.step.at_class; is = sym sets ∙ from.set }
+  by_block x z b t fits block (inr (e, is, asks)) =
+      let to = (block.exports e).0 is in
+      record { class = e.class; case = to.case; node = to.node; at = to.step.at_class; is = sym asks ∙ to.tag }
 
   at_router : (policy : PlainPolicy) (config : PlainConfig) → IsConfigOf net policy ds config → (t : Tag) → IsTrue (is_tag t) → StandsIn config t → IsNodeTag t
   at_router policy config lines t fits (c, is, inl (o, own, asks)) =

@@ -7,17 +7,18 @@ use Rattle.net_base.specs.Network.{PlainNet, is_peer, asn_of}
 use Rattle.net_base.specs.Numbers.{is_router_as, is_tag, no_tag}
 use Rattle.net_base.proofs.NumberRanges.{tag-made, tag-range}
 use Rattle.policy_base.specs.declared.case.Case.{Case}
-use Rattle.policy_base.specs.Policies.{PlainStatement}
+use Rattle.policy_base.specs.Policies.{PlainPolicy, PlainStatement, statement_at}
 use Rattle.graph_base.specs.Graphs.{PlainGraph}
 use Rattle.graph_base.specs.Runs.{place_of}
 use Rattle.graph_base.specs.Rules.{MeetsRules}
-use Rattle.evidence_base.specs.Made.{PlainCaseEvidence, AreTags, number_at, tag_at}
-use Rattle.evidence_law.specs.Passes.{IsCaseGraph, IsClaimed}
+use Rattle.config_base.specs.Configs.{PlainConfig}
+use Rattle.evidence_base.specs.Made.{PlainCaseEvidence, AreTags, IsConfigOf, number_at, tag_at}
+use Rattle.evidence_law.specs.Passes.{IsCaseGraph, IsClaimed, Passes}
 use Rattle.free_tags.specs.Free.{IsNewTag, free_count}
 use Rattle.free_tags.proofs.Counting.{value_is}
 use Rattle.evidence_renewal.specs.Laws.{RenewedEvidencePasses}
 use Rattle.evidence_renewal.specs.Renewed.{AreRenewedCases, IsRenewedCase, raised}
-use Rattle.evidence_renewal.proofs.Cases.{new_at, new_none, new_value, renewed_at}
+use Rattle.evidence_renewal.proofs.Cases.{new_at, new_none, new_value, renewed_at, same_cases}
 use Rattle.evidence_renewal.proofs.Raising.{raised-down, raised-in, raised-up, rules-alike}
 
 module _ (taken : List Tag) (by : ℕ) (net : PlainNet) where
@@ -99,6 +100,28 @@ module _ (taken : List Tag) (by : ℕ) (net : PlainNet) where
 
     pub are_tags : AreTags net ds
     are_tags = record { at_routers = at_routers; at_peers = at_peers; differ = differ }
+
+-- what passes with one configuration, renewed, passes with the one that is made of it
+pub renewed_passes : (taken : List Tag) (by : ℕ) (net : PlainNet) (policy : PlainPolicy) (old config : PlainConfig) (cs ds : List PlainCaseEvidence) → Passes net policy old cs
+    → AreRenewedCases taken by cs ds → IsConfigOf net policy ds config → Passes net policy config ds
+renewed_passes taken by net policy old config cs ds passes are lines =
+    let has : (k : ℕ) (d : PlainCaseEvidence) → slice_get ds k ≡ Some d → (c : PlainCaseEvidence) × (slice_get cs k ≡ Some c) × IsRenewedCase taken by c d = renewed_at taken by cs ds are in
+    let stated : (s : PlainStatement) (c d : PlainCaseEvidence) → IsRenewedCase taken by c d → statement_at policy d.case.statement ≡ Some s → statement_at policy c.case.statement ≡ Some s
+    = λ s c d is of. ap (λ (x : Case). statement_at policy x.statement) (sym is.case) ∙ of in
+    record {
+      limits = passes.limits;
+      made = record {
+        cases = same_cases taken by cs ds are ∙ passes.made.cases;
+        graphs = λ k d s at of.
+            let o = has k d at in
+            case_graph taken by net o.0 d o.2 s (passes.made.graphs k o.0 s o.1 (stated s o.0 d o.2 of));
+        tags = are_tags taken by net cs ds are passes.made.tags;
+        lines = lines;
+      };
+      rules = λ k d s at of.
+          let o = has k d at in
+          rules taken by net o.0 d o.2 s (passes.rules k o.0 s o.1 (stated s o.0 d o.2 of));
+    }
 
 pub passing : RenewedEvidencePasses
 passing net policy old config ds is =

@@ -37,6 +37,10 @@ on_ok P (Err e) f h = tt
 pub of_ok : {A : Type 0} (P : A → Type 0) (r : Result A EvidenceFault) (x : A) → IfOk r P → r ≡ Ok x → P x
 of_ok P r x all is = rw is at all
 
+ok_weaker : {A : Type 0} (P Q : A → Type 0) (r : Result A EvidenceFault) → ((x : A) → P x → Q x) → IfOk r P → IfOk r Q
+ok_weaker P Q (Ok x) f h = f x h
+ok_weaker P Q (Err e) f h = tt
+
 each_ok_from : {A B : Type 0} (P : A → Type 0) (Q : B → Type 0) (f : A → Result B EvidenceFault) → ((x : A) → P x → IfOk (f x) Q) → (k : ℕ) (xs : List A)
     → AllByRecursion P xs → IfOk (each_from (λ _. f) k xs) (AllByRecursion Q)
 each_ok_from P Q f one k [] all = tt
@@ -89,6 +93,7 @@ number_at_in f least most row i = on_ok (IsWithin least most) (or_fault (Shape f
 rank_fits : (r : ℕ) → rank_of r ≢ Some 0
 rank_fits r h = let p = unless_parts (r == 0) (Some r) 0 h in let same : r ≡ 0 = cc in eqb-false r 0 p.0 same
 
+entry_in : (l h r n a v : Option ℕ) → IsWithin 0 767 l → ForSome (entry l h r n a v) IsEntry
 unfolding entry
 entry_in None h r n a v low e is = absurd cc
 entry_in (Some l) None r n a v low e is = absurd cc

@@ -1,20 +1,25 @@
 -- The JSON value of evidence is plain, and opens few arrays and objects at once.
 use Rattle.std.proofs.Common.{◌≡◌, ℕ, ◌<◌, ◌≤◌, ◌^◌, Bool, true, false, List, [], ◌∷◌, length, map, refl, arith}
-use Rattle.std.specs.Prelude.{if◌then◌else◌}
+use Rattle.std.specs.Prelude.{unwrap_or, if◌then◌else◌}
 use Rattle.std.specs.List.{AllByRecursion}
+use Rattle.std.specs.Str.{IsUtf8}
+use Rattle.std.proofs.lemmas.Bool.{lt-ltb}
 use Rattle.list_law.proofs.Each.{AllByRecursion-weaker}
-use Rattle.json.proofs.Printed.Utf8.{IsUtf8-are_ascii}
+use Rattle.json.proofs.Printed.Utf8.{IsUtf8-are_ascii, are_ascii}
 use Rattle.json_values.specs.Plain.{IsPlain, ArePlain}
 use Rattle.json_values.proofs.PlainItems.{plain_map}
 use Rattle.serde_json.specs.Data.{number, string, unsigned, depth, items_depth}
 use Rattle.serde_json.specs.View.{items_of}
 use Rattle.serde_json.proofs.OnLiterals.{serde_json_on_literals}
 use Rattle.net_base.specs.declared.numbers.Tag.{Tag}
+use Rattle.net_base.specs.Prefixes.{PlainPrefix, IsPrefix}
 use Rattle.graph_base.specs.declared.graph.Node.{Node}
 use Rattle.text_parts.specs.Texts.{prefix_text}
 use Rattle.evidence_base.specs.Made.{PlainCaseEvidence}
 use Rattle.evidence_text.specs.Text.{members, case_data, evidence_data, nodes_data, step_data}
 use Rattle.evidence_text.specs.Writable.{IsWritable}
+use Rattle.evidence_text.proofs.Items.{prefix_data, texts-prefixes}
+use Rattle.evidence_text.proofs.PrefixLetters.{ascii-prefix_text}
 use Rattle.evidence_text.proofs.SetMembers.{members_below}
 
 pub mark_low : (b : Bool) → (if b then 1 else 0) ≤ 1
@@ -23,6 +28,29 @@ mark_low false = omega arith
 
 plain_numbers : (ns : List ℕ) → AllByRecursion (λ n. n < 4294967296) ns → ArePlain (items_of (map (λ n. number (unsigned n)) ns))
 plain_numbers ns are = plain_map (λ n. n < 4294967296) (λ n. number (unsigned n)) (λ n low. omega (arith, low)) ns are
+
+plain_nodes : (vs : List Node) (ns : List ℕ) (tags : List Tag)
+    → AllByRecursion (λ (v : Node). v.loc < 768) vs → AllByRecursion (λ (v : Node). unwrap_or v.rank 0 < 2 ^ 32) vs
+    → AllByRecursion (λ n. n < 2 ^ 32) ns → AllByRecursion (λ (t : Tag). (t.asn < 2 ^ 32) × (t.value < 2 ^ 32)) tags
+    → ArePlain (items_of (nodes_data vs ns tags))
+plain_nodes [] ns tags a c d e = tt
+plain_nodes (v ∷ vs) [] tags a c d e = tt
+plain_nodes (v ∷ vs) (n ∷ ns) [] a c d e = tt
+plain_nodes (v ∷ vs) (n ∷ ns) (tag ∷ tags) a c d e = (
+  plain_numbers (v.loc ∷ (if v.listener then 1 else 0) ∷ unwrap_or v.rank 0 ∷ n ∷ tag.asn ∷ tag.value ∷ [])
+      (omega (arith, a.0), (omega (arith, mark_low v.listener), (c.0, (d.0, (e.0.0, (e.0.1, tt)))))),
+  plain_nodes vs ns tags a.1 c.1 d.1 e.1,
+)
+
+prefix_utf8 : (p : PlainPrefix) → IsPrefix p → IsUtf8 (prefix_text p)
+prefix_utf8 p is = IsUtf8-are_ascii (prefix_text p) (ascii (prefix_text p) (ascii-prefix_text p is))
+  where
+    ascii : (s : List ℕ) → AllByRecursion (λ x. x < 128) s → are_ascii s ≡ true
+    ascii [] are = refl
+    ascii (x ∷ xs) are = rw (lt-ltb x 128 are.0, ascii xs are.1) refl
+
+plain_prefixes : (ps : List PlainPrefix) → AllByRecursion IsPrefix ps → ArePlain (items_of (map string (map prefix_text ps)))
+plain_prefixes ps are = rw (texts-prefixes ps) (plain_map IsPrefix prefix_data prefix_utf8 ps are)
 
 plain_case : (c : PlainCaseEvidence) → IsWritable c → IsPlain (case_data c)
 unfolding case_data serde_json_on_literals

@@ -3,7 +3,7 @@ use Rattle.std.proofs.Common.{◌≡◌, ℕ, ◌<◌, ◌≤◌, ◌/◌, ◌%�
 use Rattle.std.specs.Prelude.{codes}
 use Rattle.std.specs.Fmt.{decimal}
 use Rattle.std.specs.List.{AllByRecursion}
-use Rattle.list_law.proofs.Each.{AllByRecursion-append, AllByRecursion-from_list_all}
+use Rattle.list_law.proofs.Each.{AllByRecursion-append, AllByRecursion-weaker, AllByRecursion-from_list_all}
 use Rattle.json.specs.Print.{escape}
 use Rattle.json.proofs.Printed.Strings.{escape_byte_plain}
 use Rattle.net_base.specs.Addresses.{is_figure}
@@ -48,6 +48,9 @@ prefix_letters p is =
 
 pub escape-prefix_text : (p : PlainPrefix) → IsPrefix p → escape (prefix_text p) ≡ prefix_text p
 escape-prefix_text p is = letters (prefix_text p) (prefix_letters p is)
+
+pub ascii-prefix_text : (p : PlainPrefix) → IsPrefix p → AllByRecursion (λ x. x < 128) (prefix_text p)
+ascii-prefix_text p is = AllByRecursion-weaker IsLetter (λ x. x < 128) (prefix_text p) (λ x h. omega (arith, h.1)) (prefix_letters p is)
 
 pub quoted_prefix : (p : PlainPrefix) → IsPrefix p → codes "\"" ++ (prefix_text p ++ (codes "\"" ++ [])) ≡ 34 ∷ (escape (prefix_text p) ++ 34 ∷ [])
 quoted_prefix p is = ap (λ e. 34 ∷ (e ++ 34 ∷ [])) (sym (escape-prefix_text p is))

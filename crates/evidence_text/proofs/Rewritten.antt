@@ -1,14 +1,16 @@
 -- Evidence is read again from its text.
-use Rattle.std.proofs.Common.{◌≡◌, ◌≢◌, ℕ, ◌+◌, ◌<◌, ◌≤◌, ◌^◌, Bool, true, false, List, [], ◌∷◌, length, map, Some, Result, Ok, refl, ap, ◌∙◌, arith, map-id}
+use Rattle.std.proofs.Common.{◌≡◌, ◌≢◌, ℕ, zero, suc, ◌+◌, ◌<◌, ◌≤◌, ◌^◌, Bool, true, false, List, [], ◌∷◌, length, map, Option, Some, None, Result, Ok, refl, sym, ap, ◌∙◌, arith, map-id}
 use Rattle.std.specs.Prelude.{codes, nat_lt, ◌&&◌, ◌==◌, unwrap_or, if◌then◌else◌}
 use Rattle.std.specs.List.{AllByRecursion, list_all}
-use Rattle.std.proofs.lemmas.Bool.{le-leb, lt-ltb}
+use Rattle.std.proofs.lemmas.Bool.{le-leb, lt-ltb, ne_eqb}
+use Rattle.std.proofs.lemmas.List.{length-map}
 use Rattle.json_values.proofs.JsonLists.{list_of-items_of}
 use Rattle.json_values.proofs.ReadAgain.{json_of-line}
 use Rattle.serde_json.specs.Data.{boolean, number, string, unsigned}
 use Rattle.serde_json.specs.Find.{get}
 use Rattle.serde_json.proofs.OnLiterals.{serde_json_on_literals}
 use Rattle.list_law.proofs.Each.{AllByRecursion-weaker}
+use Rattle.net_base.specs.declared.loc.LocSet.{LocSet}
 use Rattle.evidence_text.specs.declared.parts.Field.{Field}
 use Rattle.evidence_text.specs.declared.parts.Field.TheVariants as field
 use Rattle.net_base.specs.declared.numbers.Tag.{Tag}
@@ -27,7 +29,7 @@ use Rattle.evidence_text.specs.declared.raw.RawPlaces.{RawPlaces}
 use Rattle.evidence_text.specs.declared.raw.RawWays.{RawWays}
 use Rattle.evidence_text.specs.declared.raw.ReadText.{ReadText}
 use Rattle.evidence_text.specs.declared.raw.ReadCase.{ReadCase}
-use Rattle.evidence_text.specs.Entries.{entry, pair}
+use Rattle.evidence_text.specs.Entries.{entry, pair, rank_of}
 use Rattle.evidence_text.specs.Shape.{each, greatest, number_of, number_at, row_of, node_of, step_of, prefix_of, origins_of, prefix_or}
 use Rattle.evidence_text.specs.Shape.{begins_as_case, is_case, is_evidence, list_of, places_of, ways_of, case_of, version_of, shape_of}
 use Rattle.evidence_text.specs.Spelled.{numbered_case, numbered, is_placed, evidence_of, spelled}
@@ -57,6 +59,11 @@ number_ok f least most n low high = rw (le-leb least n low, le-leb n most high) 
 mark : (b : Bool) → ((if b then 1 else 0) == 1) ≡ b
 mark true = refl
 mark false = refl
+
+rank_again : (r : Option ℕ) → r ≢ Some 0 → rank_of (unwrap_or r 0) ≡ r
+rank_again None h = refl
+rank_again (Some zero) h = absurd (h refl)
+rank_again (Some (suc n)) h = rw (ne_eqb (suc n) 0 (λ e. omega (arith, e))) refl
 
 IsWritten : Node → ℕ → Tag → Type 0
 IsWritten v n tag = (v.loc < 768) × (v.rank ≢ Some 0) × (unwrap_or v.rank 0 < 4294967296) × (n < 4294967296) × (tag.asn < 4294967296) × (tag.value < 4294967296)
@@ -160,6 +167,7 @@ numbered_again c is =
 prefixes_again : (ps : List PlainPrefix) → AllByRecursion IsPrefix ps → each prefix_of (map string (map prefix_text ps)) ≡ Ok ps
 prefixes_again ps are = ap (each prefix_of) (texts-prefixes ps) ∙ each_map IsPrefix prefix_of prefix_data (λ p. p) prefix_again 1 ps are ∙ ap Ok (map-id ps)
 
+origins_again : (s : LocSet) → origins_of (map (λ n. number (unsigned n)) (members s)) ≡ Ok (map (λ n. Some n) (members s))
 unfolding origins_of
 origins_again s =
     rw (numbers_again field.Origins 767 (members s) (AllByRecursion-weaker (λ l. l < 768) (λ l. l ≤ 767) (members s) (λ l low. omega (arith, low)) (members_below s)), members_in_order s) refl
@@ -230,6 +238,9 @@ shape_again cs are =
 text_again : (cs : List PlainCaseEvidence) → AllByRecursion IsWritable cs → numbered (raw_text cs) ≡ Ok (read_text cs)
 unfolding numbered raw_text read_text
 text_again cs are = rw (all_numbered cs are) refl
+
+entries_size : (vs : List Node) (ns : List ℕ) (tags : List Tag) → length ns ≡ length vs → length tags ≡ length vs → length (entries vs ns tags) ≡ length vs
+entries_size vs ns tags a b = sym (length-map (entries vs ns tags) (λ (e : NodeEntry). e.node)) ∙ ap length (entries_nodes vs ns tags a b)
 
 all_tested : {A : Type 0} (P : A → Type 0) (p : A → Bool) → ((x : A) → P x → p x ≡ true) → (xs : List A) → AllByRecursion P xs → list_all p xs ≡ true
 all_tested P p one [] all = refl

@@ -1,5 +1,5 @@
 -- What reads an atom, and what a bracket holds.
-use Rattle.std.proofs.Common.{◌≡◌, ℕ, zero, suc, ◌≤◌, ◌⊎◌, inl, inr, List, [], ◌∷◌, ◌++◌, Ok, Err, refl, sym, ap, ◌∙◌, subst, append-nil, arith}
+use Rattle.std.proofs.Common.{◌≡◌, ℕ, zero, suc, ◌≤◌, ◌⊎◌, inl, inr, List, [], ◌∷◌, ◌++◌, Ok, Err, refl, sym, ap, ◌∙◌, subst, append_assoc, append-nil, arith}
 use Rattle.policy_tokens.specs.declared.fault.PolicyFault.{PolicyFault}
 use Rattle.policy_grammar.specs.declared.lexeme.Lexeme.{Lexeme}
 use Rattle.policy_grammar.specs.declared.symbol.Symbol.{Symbol}
@@ -17,11 +17,11 @@ use Rattle.grammar_law.proofs.Readers.{Before, head, head_is, Ended, ended_behin
 use Rattle.grammar_law.proofs.Tokens.{Token, OneToken, Nothing, NoToken, nothing, no_token}
 use Rattle.grammar_law.proofs.Sequences.{Then, ThenPlain, then, in_turn, then-sound, then-stops}
 use Rattle.grammar_law.proofs.Choices.{choose-is, choose-isnt, behind}
-use Rattle.grammar_law.proofs.NameReaders.{last_words, closed_words}
+use Rattle.grammar_law.proofs.NameReaders.{last_words, closed_words, closed_of}
 use Rattle.grammar_law.proofs.CallReaders.{free, free_fits}
 use Rattle.grammar_law.proofs.WholeCalls as calls
 use Rattle.grammar_law.proofs.WholeCalls.{Called, call_exact}
-use Rattle.grammar_law.proofs.Balance.{called_word, word_flat}
+use Rattle.grammar_law.proofs.Balance.{called_word, call_balanced, word_flat}
 use Rattle.grammar_law.proofs.Nesting.{brackets, opened}
 
 -- steps behind those that were read
@@ -32,6 +32,18 @@ abbrev pub Atom : List Step → Before (List Step)
 Atom out y ls l = Onto out IsAtom y ls
 
 -- ---- calls, with any room
+
+called_exact : Exact brackets Called IsCall (λ n. call_at)
+called_exact = record {
+  known = record {
+    plain = call_exact.known.plain;
+    balanced = call_balanced;
+    some = call_exact.known.some;
+    reads = λ n x ls l rest g fits. call_exact.known.reads n x ls l rest g (free_fits n ls);
+    sound = call_exact.known.sound;
+  };
+  stops = λ n ls e ended fits h. call_exact.stops n ls e ended (free_fits n ls) h;
+}
 
 abbrev CallStep : List Step → Before (List Step)
 CallStep out = Then Called (λ x. Nothing (out ++ step.Call x ∷ []))
@@ -123,6 +135,22 @@ atom_is n out o ls i = choose-is symbol.RoundOpen (λ t. enclosed n out) (call_s
 atom_isnt : (n : ℕ) (out : List Step) (ls : List Lexeme) (l : Lexeme) (rest : List Lexeme) → Isnt symbol.RoundOpen (head ls l)
     → atom_with (inner_at n) out (ls ++ l ∷ rest) ≡ call_step out (ls ++ l ∷ rest)
 atom_isnt n out ls l rest i = choose-isnt symbol.RoundOpen (λ t. enclosed n out) (call_step out) ls l rest i
+
+enclosed-reads : (G : List Step → Before (List Step)) → Encloses G → (n : ℕ) → ReadsAt G n (ranked_with (inner_at n)) → (out xs : List Step) (ts : List Lexeme) (c l : Lexeme) (rest : List Lexeme)
+    → IsRanked xs ts → Is symbol.RoundClose c → brackets.Fits n ts → enclosed (suc n) out ((ts ++ c ∷ []) ++ l ∷ rest) ≡ Ok (out ++ xs, l ∷ rest)
+enclosed-reads G enc n at out xs ts c l rest r j fits =
+    ap (enclosed (suc n) out) (append_assoc ts (c ∷ []) (l ∷ rest)) ∙ enclosed-suc n out (ts ++ c ∷ l ∷ rest)
+    ∙ ap (λ z. z >>= λ x. closing x.0 x.1) (at.reads out (out ++ xs) ts c (l ∷ rest) (enc.before out c j r) fits)
+    ∙ (closing_exact (out ++ xs)).known.reads 0 (out ++ xs) (c ∷ []) l rest (closed_of symbol.RoundClose (out ++ xs) c l j) (free_fits 0 (c ∷ []))
+
+bracket-reads : (G : List Step → Before (List Step)) → Encloses G → (n : ℕ) → Inner G n → (out xs : List Step) (o c l : Lexeme) (ts rest : List Lexeme)
+    → Is symbol.RoundOpen o → IsRanked xs ts → Is symbol.RoundClose c → brackets.Fits n (o ∷ ts ++ c ∷ []) → atom_with (inner_at n) out ((o ∷ ts ++ c ∷ []) ++ l ∷ rest) ≡ Ok (out ++ xs, l ∷ rest)
+bracket-reads G enc zero inner out xs o c l ts rest i r j fits = let room = opened 0 o (ts ++ c ∷ []) i fits in absurd (omega (arith, room.1))
+bracket-reads G enc (suc n) inner out xs o c l ts rest i r j fits =
+    let room = opened (suc n) o (ts ++ c ∷ []) i fits in
+    let same : room.0 ≡ n = omega (arith, room.1) in
+    atom_is (suc n) out o ((ts ++ c ∷ []) ++ l ∷ rest) i
+    ∙ enclosed-reads G enc n inner out xs ts c l rest r j (brackets.front n ts (c ∷ []) (subst (λ k. brackets.Fits k (ts ++ c ∷ [])) same room.2))
 
 pub atom-reads : (G : List Step → Before (List Step)) → Encloses G → (n : ℕ) → Inner G n → (out : List Step) → Reads brackets n (Atom out) (atom_with (inner_at n) out)
 atom-reads G enc n inner out y ls l rest (xs, e, IsAtom.bracket {o = o} {c = c} {ts = ts} i r j) fits =

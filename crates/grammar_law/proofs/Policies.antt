@@ -11,8 +11,8 @@ use Rattle.net_base.specs.Steps.{◌>>=◌}
 use Rattle.net_base.proofs.StepLemmas.{bind_ok, ok_same, err_same}
 use Rattle.grammar_law.specs.Grammar.{Is, IsItem, IsPolicy}
 use Rattle.grammar_law.proofs.Lookups.{Isnt, is_or_isnt, past-is, past-isnt}
-use Rattle.grammar_law.proofs.Readers.{head, head_is, head-tail, tail, Ended, Stop, all_on, ended_after, left_fits}
-use Rattle.grammar_law.proofs.WholeItems.{item, item_exact, item_of, item_begins, same_item}
+use Rattle.grammar_law.proofs.Readers.{head, head_is, head-tail, tail, Ended, WasRead, Stop, reads_on, all_on, by_on, ended_after, front_fits, left_fits}
+use Rattle.grammar_law.proofs.WholeItems.{ItemBefore, item, item_exact, item_of, item_begins, same_item}
 use Rattle.grammar_law.proofs.Nesting.{brackets}
 
 -- items up to the end of the text, with room for m brackets in each
@@ -44,6 +44,13 @@ unfolding items_up
 items-item m c so_far ls l rest i =
     ap (λ o. either o (λ l rest. Ok so_far) (item m (ls ++ l ∷ rest) >>= λ x. items_up m c (so_far ++ x.0 ∷ []) x.1))
     (ap (past EndOfText) (head-tail ls l rest) ∙ past-isnt EndOfText (head ls l) (tail ls l rest) i)
+
+-- the next item, and those behind it
+items-on : (m c : ℕ) (so_far : List Item) (x : Item) (ls ks : List Lexeme) (l : Lexeme) (rest : List Lexeme) → ItemBefore x ls (head ks l) → brackets.Fits m ls → Isnt EndOfText (head (ls ++ ks) l)
+    → items_up m (suc c) so_far ((ls ++ ks) ++ l ∷ rest) ≡ items_up m c (so_far ++ x ∷ []) (ks ++ l ∷ rest)
+items-on m c so_far x ls ks l rest is fits i =
+    items-item m c so_far (ls ++ ks) l rest i
+    ∙ ap (λ z. z >>= λ x. items_up m c (so_far ++ x.0 ∷ []) x.1) (reads_on brackets m ItemBefore (item m) (item_exact.known.reads m) x ls ks l rest is fits)
 
 -- an item is no shorter than one token
 item_head : {x : Item} {ls : List Lexeme} → IsItem x ls → (ks : List Lexeme) (l : Lexeme) → Isnt EndOfText (head (ls ++ ks) l) × (suc (length ks) ≤ length (ls ++ ks))
@@ -142,6 +149,35 @@ item_stops m so_far l ls e i s = record {
     always n (suc c) other le short =
         items-item n c so_far s.front s.here other (subst (Isnt EndOfText) (head_is s.front s.here l s.rest ls s.all) i)
         ∙ ap (λ z. z >>= λ x. items_up n c (so_far ++ x.0 ∷ []) x.1) (s.always n other le)
+
+-- in a later one
+later_stops : (m : ℕ) (so_far : List Item) (x : Item) (ls mid : List Lexeme) (e : PolicyFault) → brackets.Fits m ls → WasRead ItemBefore ls x mid
+    → PolicyStop m (so_far ++ x ∷ []) mid e → PolicyStop m so_far ls e
+later_stops m so_far x ls mid e fits w s = record {
+  front = w.front ++ s.front;
+  here = s.here;
+  rest = s.rest;
+  all = all_on w s.front s.here s.rest s.all;
+  fault = s.fault;
+  always = always;
+  items = x ∷ s.items;
+  back = s.back;
+  policy = subst (IsPolicy (x ∷ s.items)) (sym (append_assoc w.front s.front s.back)) (IsPolicy.more item_is s.policy);
+}
+  where
+    item_is : IsItem x w.front
+    item_is = item_exact.known.plain x w.front w.next w.by
+
+    room : (n : ℕ) → m ≤ n → brackets.Fits n w.front
+    room n le = brackets.more m n w.front le (front_fits brackets m w fits)
+
+    always : (n c : ℕ) (other : List Lexeme) → m ≤ n → length ((w.front ++ s.front) ++ s.here ∷ other) ≤ c → items_up n c so_far ((w.front ++ s.front) ++ s.here ∷ other) ≡ Err e
+    always n zero other le short = absurd (omega (arith, short, length-append (w.front ++ s.front) (s.here ∷ other)))
+    always n (suc c) other le short =
+        let b = item_head item_is s.front s.here in
+        let shorter : length (s.front ++ s.here ∷ other) ≤ c = omega (arith, short, b.1, length-append (w.front ++ s.front) (s.here ∷ other), length-append s.front (s.here ∷ other)) in
+        items-on n c so_far x w.front s.front s.here other (by_on w s.front s.here s.rest s.all) (room n le) b.0
+        ∙ s.always n c other le shorter
 
 pub policy_stops : (m c : ℕ) (so_far : List Item) (ls : List Lexeme) (e : PolicyFault) → length ls ≤ c → Ended ls → brackets.Fits m ls → items_up m c so_far ls ≡ Err e → PolicyStop m so_far ls e
 policy_stops m c so_far [] e le ended fits h = absurd ended

@@ -162,6 +162,10 @@ by_on {G = G} {x = x} w front next rest e = subst (G x w.front) (head_is front n
 pub ended_after : {A : Type 0} {G : Before A} {ls mid : List Lexeme} {x : A} → WasRead G ls x mid → Ended mid
 ended_after w = subst Ended (sym w.left) w.ended
 
+-- there is room for what was read
+pub front_fits : {A : Type 0} {G : Before A} {ls mid : List Lexeme} {x : A} (r : Room) (n : ℕ) (w : WasRead G ls x mid) → r.Fits n ls → r.Fits n w.front
+front_fits r n w fits = r.front n w.front (w.next ∷ w.rest) (subst (r.Fits n) w.all fits)
+
 -- and for what is left
 pub left_fits : {A : Type 0} {G : Before A} {ls mid : List Lexeme} {x : A} (r : Room) (n : ℕ) → Balanced r G → WasRead G ls x mid → r.Fits n ls → r.Fits n mid
 left_fits {mid = mid} {x = x} r n balanced w fits = balanced n x w.front mid w.next w.by (subst (r.Fits n) (w.all ∙ ap (λ z. w.front ++ z) (sym w.left)) fits)

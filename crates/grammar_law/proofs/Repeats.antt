@@ -11,7 +11,7 @@ use Rattle.net_base.proofs.StepLemmas.{bind_ok}
 use Rattle.grammar_law.specs.Grammar.{Is, Rule}
 use Rattle.grammar_law.proofs.Lookups.{Differ, Isnt, is_or_isnt, past-is, past-isnt}
 use Rattle.grammar_law.proofs.Readers.{Before, head, head-append, Ended, ended_behind, read_same, Room, Passes, Balanced, Reads, WasRead, Sound, Stop, Stops, Known, Exact, reads_on}
-use Rattle.grammar_law.proofs.Readers.{all_on, by_on, ended_after, left_fits}
+use Rattle.grammar_law.proofs.Readers.{all_on, by_on, ended_after, front_fits, left_fits}
 
 -- links from one state to another, before a token
 pub data Links {A : Type 0} (joint : Symbol) (Link : Lexeme → A → Before A) (l : Lexeme) : A → A → List Lexeme → Type 0 where
@@ -121,6 +121,32 @@ first_halts joint C link n x j ls e i s = record {
   thing = s.thing;
   whole = subst (λ z. Linked joint C x s.thing (j ∷ z)) (append-nil (s.front ++ s.back)) (more i s.whole none);
 }
+
+-- the first link is there, and a later one isn't
+later_halts : {A : Type 0} (r : Room) (joint : Symbol) (Link : Lexeme → A → Before A) (C : Lexeme → A → Rule A)
+    (link : Lexeme → A → ℕ → List Lexeme → Read A) (n : ℕ) (x y : A) (j : Lexeme) (ls mid : List Lexeme) (e : PolicyFault)
+    → Is joint j → Known r (Link j x) (C j x) (link j x) → r.Fits n ls → WasRead (Link j x) ls y mid → Halt joint C n link y mid e → Halt joint C n link x (j ∷ ls) e
+later_halts r joint Link C link n x y j ls mid e i known room w t =
+    let by = by_on w t.front t.here t.rest t.all in
+    let fits = front_fits r n w room in
+    record {
+      front = j ∷ w.front ++ t.front;
+      here = t.here;
+      rest = t.rest;
+      all = ap (λ z. j ∷ z) (all_on w t.front t.here t.rest t.all);
+      fault = t.fault;
+      always = λ m c other le short.
+          let step = chain_here joint (λ j y. link j y m) c x j ((w.front ++ t.front) ++ t.here ∷ other) i short in
+          let shorter : length (t.front ++ t.here ∷ other) ≤ step.0 =
+          omega (arith, short, step.1, ap length (append_assoc w.front t.front (t.here ∷ other)), length-append w.front (t.front ++ t.here ∷ other))
+          in
+          step.2 ∙ ap (λ z. z >>= λ p. chain joint (λ j y. link j y m) step.0 p.0 p.1)
+          (reads_on r m (Link j x) (link j x m) (known.reads m) y w.front t.front t.here other by (r.more n m w.front le fits))
+          ∙ t.always m step.0 other le shorter;
+      back = t.back;
+      thing = t.thing;
+      whole = subst (λ z. Linked joint C x t.thing (j ∷ z)) (sym (append_assoc w.front t.front t.back)) (more i (known.plain y w.front w.next w.by) t.whole);
+    }
 
 links-halt : {A : Type 0} (r : Room) (n : ℕ) (joint : Symbol) (Link : Lexeme → A → Before A) (C : Lexeme → A → Rule A) (link : Lexeme → A → ℕ → List Lexeme → Read A)
     → Passes r joint → Differ joint EndOfText → ((j : Lexeme) (x : A) → Known r (Link j x) (C j x) (link j x)) → ((j : Lexeme) (x : A) → Stops r (C j x) n (link j x))

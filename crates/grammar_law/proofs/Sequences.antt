@@ -6,8 +6,8 @@ use Rattle.policy_grammar.specs.Reading.{Read, after}
 use Rattle.net_base.specs.Steps.{◌>>=◌}
 use Rattle.net_base.proofs.StepLemmas.{bind_ok}
 use Rattle.grammar_law.specs.Grammar.{Rule}
-use Rattle.grammar_law.proofs.Readers.{Before, head, Room, Balanced, Reads, Sound, Stop, Stops, HasOne, Known, Exact, reads_on}
-use Rattle.grammar_law.proofs.Readers.{stop_as, all_on, by_on, ended_after, left_fits}
+use Rattle.grammar_law.proofs.Readers.{Before, head, Room, Balanced, Reads, WasRead, Sound, Stop, Stops, HasOne, Known, Exact, reads_on}
+use Rattle.grammar_law.proofs.Readers.{stop_as, all_on, by_on, ended_after, front_fits, left_fits}
 
 abbrev pub Then : {A B : Type 0} → Before A → (A → Before B) → Before B
 Then {A} G H y ls l = (x : A) × (front back : List Lexeme) × (ls ≡ front ++ back) × G x front (head back l) × H x y back l
@@ -47,6 +47,26 @@ first_stops : {A B : Type 0} (C : Rule A) (D : A → Rule B) (n : ℕ) (f : ℕ 
 first_stops C D n f g ls e some s =
     let d = some s.thing in
     stop_as s (λ m other le. rw (s.always m other le) refl) d.0 (s.back ++ d.1) (s.thing, s.front ++ s.back, d.1, sym (append_assoc s.front s.back d.1), s.whole, d.2)
+
+-- the first thing is there, and the second one isn't
+second_stops : {A B : Type 0} (r : Room) (G : Before A) (C : Rule A) (D : A → Rule B) (n : ℕ) (f : ℕ → List Lexeme → Read A)
+    (g : A → ℕ → List Lexeme → Read B) (ls : List Lexeme) (e : PolicyFault) (x : A) (mid : List Lexeme)
+    → Known r G C f → r.Fits n ls → WasRead G ls x mid → Stop (D x) n (g x) mid e → Stop (ThenPlain C D) n (λ m. then (f m) (λ x. g x m)) ls e
+second_stops r G C D n f g ls e x mid k fits w s =
+    record {
+      front = w.front ++ s.front;
+      here = s.here;
+      rest = s.rest;
+      all = all_on w s.front s.here s.rest s.all;
+      fault = s.fault;
+      always = λ m other le.
+          ap (λ z. z >>= λ x. g x.0 m x.1)
+          (reads_on r m G (f m) (k.reads m) x w.front s.front s.here other (by_on w s.front s.here s.rest s.all) (r.more n m w.front le (front_fits r n w fits)))
+          ∙ s.always m other le;
+      back = s.back;
+      thing = s.thing;
+      whole = (x, w.front, s.front ++ s.back, append_assoc w.front s.front s.back, k.plain x w.front w.next w.by, s.whole);
+    }
 
 pub then-stops : {A B : Type 0} (r : Room) (n : ℕ) (G : Before A) (C : Rule A) (D : A → Rule B) (f : ℕ → List Lexeme → Read A) (g : A → ℕ → List Lexeme → Read B)
     → Known r G C f → Stops r C n f → ((x : A) → HasOne (D x)) → ((x : A) → Stops r (D x) n (g x)) → Stops r (ThenPlain C D) n (λ m. then (f m) (λ x. g x m))

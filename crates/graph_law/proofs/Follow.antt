@@ -1,10 +1,11 @@
 -- What a run says of its path where the graph is well formed.
-use Rattle.std.proofs.Common.{◌≡◌, ℕ, Bool, true, false, not, List, [], ◌∷◌, sym, ap, ◌∙◌}
-use Rattle.std.proofs.lemmas.Bool.{and_parts, not-true, false≢true, false_from_ne_true}
-use Rattle.net_base.specs.Network.{PlainNet, linked}
+use Rattle.std.proofs.Common.{◌≡◌, ℕ, Bool, true, false, not, List, [], ◌∷◌, sym, ap, ◌∙◌, ⊎_elim}
+use Rattle.std.proofs.lemmas.Bool.{and_parts, or_cases, not-true, false≢true, false_from_ne_true}
+use Rattle.net_base.specs.Network.{PlainNet, is_peer, is_router, linked}
 use Rattle.graph_base.specs.Graphs.{PlainGraph}
 use Rattle.graph_base.specs.Runs.{place_of, is_start, has_step}
 use Rattle.graph_base.specs.Rules.{IsWellFormed}
+use Rattle.net_base.proofs.RoutersAndPeers.{router_no_peer}
 use Rattle.graph_law.proofs.RunPaths.{GoesTo}
 use Rattle.graph_base.proofs.RunSteps.{IsInside, RunsTo}
 use Rattle.net_base.proofs.Links.{linked_flips}
@@ -22,6 +23,11 @@ module _ (net : PlainNet) (origin : ℕ → Bool) (external : Bool) (g : PlainGr
   step_no_origin inside m n l h e =
       ap origin (sym e)
       ∙ false_from_ne_true (origin (place_of g n)) (λ o. false≢true (sym (step_no_start m n h) ∙ wf.alone n (inside.steps m n h) o))
+
+  step_from_router : (m n k : ℕ) → has_step g m n ≡ true → is_start g m ≡ false → place_of g m ≡ k → is_peer net k ≡ false
+  step_from_router m n k h s e =
+      ⊎_elim (λ t. absurd (false≢true (sym s ∙ t))) (λ r. ap (is_peer net) (sym e) ∙ router_no_peer net (place_of g m) r)
+      (or_cases (is_start g m) (is_router net (place_of g m)) (wf.from m n h))
 
   -- a path with a run is a walk to an origin, or an origin alone
   pub goes_from_runs : IsInside g → (path : List ℕ) (n : ℕ) → RunsTo g path n → GoesTo net origin path

@@ -1,7 +1,7 @@
 -- The graph that is built is well formed.
 use Rattle.std.proofs.Common.{◌≡◌, ℕ, ◌+◌, ◌<◌, ◌≤◌, true, false, not, ◌&&◌, ◌||◌, ◌==◌, IsTrue, nat_eq, List, [], ◌∷◌, map, length, slice_get, flat_map, Some, refl, sym}
 use Rattle.std.proofs.Common.{ap, ◌∙◌, subst, inl, inr, ⊎_elim, arith, eqb-true}
-use Rattle.std.proofs.lemmas.Bool.{and_parts, and_from, not-true, false≢true}
+use Rattle.std.proofs.lemmas.Bool.{and_parts, and_from, or_cases, not-true, false≢true}
 use Rattle.std.proofs.lemmas.Option.{same_Some}
 use Rattle.list_law.proofs.Apart.{Apart, Apart-append, Apart-weaken, Apart-map, IsDistinct-from_apart, place_is_one}
 use Rattle.list_law.proofs.Members.{IsIn-map_parts, IsIn-flat_map_parts, IsIn-later, list_any_member, AllByRecursion-from_IsIn}
@@ -21,6 +21,7 @@ use Rattle.graph_base.proofs.NodesRead.{is_listener-node}
 use Rattle.net_base.proofs.NumbersBelow.{below_from_In, Apart-numbers_below}
 use Rattle.graph_law.proofs.Standings.{slice_get-place_in}
 use Rattle.graph_law.proofs.Targets.{IsBegin, IsNext, begin_from_In, next_from_In, Apart-targets}
+use Rattle.net_base.proofs.RoutersAndPeers.{peer_no_router}
 use Rattle.graph_law.proofs.Nodes.{node_at, place_at, standing_at, standings_apart, start_at_front, start_or_target, In-next, start_below, start_from_below, step_parts}
 use Rattle.graph_law.proofs.Nodes.{step_made, steps_from_parts, node_within}
 use Rattle.graph_base.proofs.StartsAndSteps.{in_step}
@@ -114,6 +115,11 @@ module _ (net : PlainNet) (plan : Plan) (xs : List Standing) (are : AreStandings
 
   placed : ArePlaced net plan xs xs
   placed x y h t = place_at net plan xs are (place_in xs y) y (slice_get-place_in xs y (In-next net plan xs are x y h t))
+
+  into_peer : (y : Standing) → (is_router net y.at || not plan.external) ≡ true → is_peer net y.at ≡ true → plan.external ≡ false
+  into_peer y inside peer =
+      ⊎_elim (λ r. absurd (false≢true (sym (peer_no_router net y.at peer) ∙ r))) (λ e. not-true plan.external e)
+      (or_cases (is_router net y.at) (not plan.external) inside)
 
   pub well_formed : IsWellFormed net plan.origin plan.external (graph_over net plan xs)
   well_formed = record {

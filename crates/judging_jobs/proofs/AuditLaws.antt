@@ -1,5 +1,5 @@
 -- The job that audits.
-use Rattle.std.proofs.Common.{◌≡◌, ◌≢◌, ℕ, List, [], ◌∷◌, ◌++◌, Option, Some, None, refl, subst, ◌∙◌}
+use Rattle.std.proofs.Common.{◌≡◌, ◌≢◌, ℕ, List, [], ◌∷◌, ◌++◌, Option, Some, None, refl, sym, ap, subst, ◌∙◌}
 use Rattle.net_base.specs.Network.{PlainNet, IsNet}
 use Rattle.policy_base.specs.Policies.{IsPolicyOf, PlainPolicy}
 use Rattle.config_base.specs.Configs.{PlainConfig}
@@ -8,12 +8,17 @@ use Rattle.evidence_verdicts.specs.declared.verdict.Verdict.{Verdict}
 use Rattle.evidence_verdicts.specs.declared.verdict.Verdict.TheVariants.{Holds, Fails}
 use Rattle.evidence_verdicts.proofs.OneVerdict.{one_verdict}
 use Rattle.outcome_base.specs.Outcomes.{Outcome}
+use Rattle.outcome_report.proofs.Texts.{one_report}
+use Rattle.outcome_report.specs.Report.{shown_of}
 use Rattle.scenario_reader.specs.Spelled.{spelled as scenario_spelled_by}
 use Rattle.scenarios.specs.declared.scenario.Scenario.{Scenario}
+use Rattle.scenarios.specs.Scenarios.{failures_of}
 use Rattle.table_reader.specs.Spelled.{spelled as tables_spelled_by}
+use Rattle.table_audit.specs.declared.verdict.AuditVerdict.{AuditVerdict}
+use Rattle.table_audit.proofs.Telling.{verdicts_are_one}
 use Rattle.run_base.specs.declared.outcome.Status.TheVariants.{BadInput}
 use Rattle.run_base.specs.Reading.{Holds as HeldBy, AllHeld, SaidOfTold}
-use Rattle.run_base.specs.Said.{Said}
+use Rattle.run_base.specs.Said.{Said, text}
 use Rattle.run_base.proofs.Jobs.{IsJob, IsJobSaid, in_text, in_failing}
 use Rattle.input_texts.specs.Asked.{SpellFor}
 use Rattle.input_texts.specs.FaultLines.{scenario_line, tables_line}
@@ -22,7 +27,7 @@ use Rattle.input_texts.proofs.Asking.{job_of, said_for as texts_said_for, told_s
 use Rattle.input_texts.proofs.Spelling.{OfPair, at_pair, at_read, of_pair, of_read, one_of_pair, one_of_read, pair_form, read_form}
 use Rattle.judging_jobs.specs.VerdictLines.{fails_line}
 use Rattle.judging_jobs.specs.Asked.{Audited, SpellAudit}
-use Rattle.judging_jobs.specs.Audited.{SaysOfChecked, SaysOfLine, SaysOfMore, SaysOfRoutes, SaysOfTexts, SaysUnder}
+use Rattle.judging_jobs.specs.Audited.{SaysOfChecked, SaysOfLine, SaysOfMore, SaysOfPassing, SaysOfRoutes, SaysOfTexts, SaysUnder}
 use Rattle.judging_jobs.specs.AuditLines.{stable_line, unstable_line}
 
 -- ---- the form of what is said
@@ -54,6 +59,26 @@ module _ (Refuses Checks : Type 0) (checks : Checks) where
   more_form (z ∷ w ∷ v ∷ u ∷ t ∷ more) net policy what h = absurd h
 
 -- ---- one thing is said
+
+one_of_lines : (net : PlainNet) (policy : PlainPolicy) (config : PlainConfig) (scenario : Scenario) (routes : Outcome) (o : Option (List ℕ)) (one other : Said)
+    → SaysOfLine net policy config scenario routes o one → SaysOfLine net policy config scenario routes o other → one ≡ other
+one_of_lines net policy config scenario routes None one other a b =
+    a.told
+    ∙ ap (λ r. text (stable_line ++ r)) (one_report net policy scenario.prefix (shown_of net policy config (failures_of scenario) scenario.prefix routes) config a.report b.report a.of b.of)
+    ∙ sym b.told
+one_of_lines net policy config scenario routes (Some line) one other a b = a ∙ sym b
+
+one_of_passing : (net : PlainNet) (policy : PlainPolicy) (config : PlainConfig) (scenario : Scenario) (routes : Outcome) (one other : Said)
+    → SaysOfPassing net policy config scenario routes one → SaysOfPassing net policy config scenario routes other → one ≡ other
+one_of_passing net policy config scenario routes one other a b =
+    let same = verdicts_are_one net policy config (failures_of scenario) scenario.prefix routes a.verdict b.verdict a.is b.is in
+    let Says : AuditVerdict → Type 0 = λ v. SaysOfLine net policy config scenario routes (unstable_line net v) one in
+    one_of_lines net policy config scenario routes (unstable_line net b.verdict) one other (subst Says same a.says) b.says
+
+one_of_checked : (net : PlainNet) (policy : PlainPolicy) (config : PlainConfig) (scenario : Scenario) (routes : Outcome) (v : Verdict) (one other : Said)
+    → SaysOfChecked net policy config scenario routes v one → SaysOfChecked net policy config scenario routes v other → one ≡ other
+one_of_checked net policy config scenario routes Holds one other a b = one_of_passing net policy config scenario routes one other a b
+one_of_checked net policy config scenario routes (Fails rule shown) one other a b = a ∙ sym b
 
 pub one_of_routes : (net : PlainNet) (policy : PlainPolicy) (config : PlainConfig) (evidence : List PlainCaseEvidence) (scenario : Scenario) (routes : Outcome) (one other : Said)
     → SaysOfRoutes net policy config evidence scenario routes one → SaysOfRoutes net policy config evidence scenario routes other → one ≡ other

@@ -22,7 +22,7 @@ use Rattle.policy_base.proofs.KnownCases.{case_known}
 use Rattle.case_core.specs.declared.cases.CaseGraph.{CaseGraph}
 use Rattle.case_core.specs.declared.refusal.CompileRefusal.TheVariants as compile
 use Rattle.case_core.specs.Refusals.{IsCause, IsGraphOf}
-use Rattle.case_core.proofs.OneCause.{one_cause}
+use Rattle.case_core.proofs.OneCause.{few_states, few_steps, one_cause}
 use Rattle.case_core.proofs.Places.{of_case}
 use Rattle.lint_ranks.specs.declared.refusal.LintRefusal.{LintRefusal}
 use Rattle.lint_ranks.specs.declared.refusal.LintRefusal.TheVariants.{TooManyRanks, TooManyStates, TooManySteps, NoMemory}
@@ -139,6 +139,13 @@ module _ (net : PlainNet) (policy : PlainPolicy) where
   behind k room number left (b ∷ before) later g each at rest =
       behind (k + 1) (room - length b.steps) number left before later g each.1 (omega (arith, at)) (omega (arith, rest, sum_by-cons (λ (x : PlainGraph). length x.steps) b before))
 
+  -- a case within the limits isn't refused for them
+  not_past : (number room : ℕ) (s : PlainStatement) (c : Case) (g : PlainGraph) (e : LintRefusal) → IsBuiltWithin net room s c g → IsCause net number room s c (compile_refusal e) → e ≡ NoMemory
+  not_past number room s c g (TooManyRanks k count) is h = absurd (omega (arith, is.ranks, h.1))
+  not_past number room s c g (TooManyStates k) is h = absurd (few_states net number room s c g is h.2)
+  not_past number room s c g (TooManySteps k) is h = absurd (few_steps net number room s c g is h.2)
+  not_past number room s c g NoMemory is h = refl
+
   refused_behind : (before rest more : List PlainGraph) (e : LintRefusal) → more ≡ before ++ rest → length before < length more
       → length before < length (case_list net policy) → AreWithin net policy more
       → OfCase net policy (length before + 1) (λ s c. IsCause net (length before + 1) (steps_left before) s c (compile_refusal e)) → e ≡ NoMemory
@@ -182,6 +189,32 @@ module _ (net : PlainNet) (policy : PlainPolicy) where
     | inl none ↦ none
     | inr of ↦ not_refused_before of.before all.0 e of.each all.1 (omega (arith, of.within, all.2)) (omega (arith, all.2)) of.cause
   ]
+
+  -- as refusals of the compiler they are as many
+  same_refusal : (e f : LintRefusal) → compile_refusal e ≡ compile_refusal f → e ≡ f
+  same_refusal (TooManyRanks k n) (TooManyRanks j m) h = cc
+  same_refusal (TooManyRanks k n) (TooManyStates j) h = absurd cc
+  same_refusal (TooManyRanks k n) (TooManySteps j) h = absurd cc
+  same_refusal (TooManyRanks k n) NoMemory h = absurd cc
+  same_refusal (TooManyStates k) (TooManyRanks j m) h = absurd cc
+  same_refusal (TooManyStates k) (TooManyStates j) h = cc
+  same_refusal (TooManyStates k) (TooManySteps j) h = absurd cc
+  same_refusal (TooManyStates k) NoMemory h = absurd cc
+  same_refusal (TooManySteps k) (TooManyRanks j m) h = absurd cc
+  same_refusal (TooManySteps k) (TooManyStates j) h = absurd cc
+  same_refusal (TooManySteps k) (TooManySteps j) h = cc
+  same_refusal (TooManySteps k) NoMemory h = absurd cc
+  same_refusal NoMemory (TooManyRanks j m) h = absurd cc
+  same_refusal NoMemory (TooManyStates j) h = absurd cc
+  same_refusal NoMemory (TooManySteps j) h = absurd cc
+  same_refusal NoMemory NoMemory h = refl
+
+  as_limits : (e f : LintRefusal)
+      → (compile_refusal e ≡ compile.NoMemory) ⊎ (compile_refusal f ≡ compile.NoMemory) ⊎ (compile_refusal e ≡ compile_refusal f)
+      → (e ≡ NoMemory) ⊎ (f ≡ NoMemory) ⊎ (e ≡ f)
+  as_limits e f (inl h) = inl (same_refusal e NoMemory h)
+  as_limits e f (inr (inl h)) = inr (inl (same_refusal f NoMemory h))
+  as_limits e f (inr (inr h)) = inr (inr (same_refusal e f h))
 
   both_cases : (e f : LintRefusal) → IsOfCase e → IsOfCase f → (e ≡ NoMemory) ⊎ (f ≡ NoMemory) ⊎ (e ≡ f)
   both_cases e f a b = elim (cases_order (length a.before) (length b.before)) [

@@ -30,6 +30,9 @@ same_multiple a b m clean other same =
     let right : m * (b / m) + b % m ≡ b = div-add-mod b m in
     sym left ∙ ap (λ k. m * (a / m) + k) (clean ∙ sym other) ∙ ap (λ k. m * k + b % m) same ∙ right
 
+min_reached : (x y m : ℕ) → m ≤ x → m ≤ y → min x m ≡ min y m
+min_reached x y m left right = omega arith
+
 -- a number times one that isn't 0
 pub le-mul_right : (n k : ℕ) → 0 < k → n ≤ n * k
 le-mul_right n k some = le-mul_of_pos_right n some

@@ -2,7 +2,7 @@
 use Rattle.std.proofs.Common.{◌≡◌, ℕ, ◌+◌, ◌-◌, ◌*◌, ◌/◌, ◌%◌, ◌^◌, ◌<◌, ◌≤◌, Bool, true, false, inl, inr, refl, ap, sym, ◌∙◌, arith}
 use Rattle.std.specs.Prelude.{◌⊎◌, ◌&&◌, ◌==◌, nat_le, nat_lt}
 use Rattle.std.proofs.lemmas.Bool.{leb-true, le-leb, lt-leb, ltb-true, lt-ltb, le-ltb, eqb-true, eq-eqb, and_parts, and_from, or_cases, or_left, or_right, cases_lt}
-use Rattle.std.proofs.lemmas.Nat.{shr_split, shr_high, mod_below, pow_pos}
+use Rattle.std.proofs.lemmas.Nat.{shr_split, shr_high, mod_below, pow_pos, pow-add, div_below, mul-le}
 use Rattle.std.proofs.Math.Bool.{and-true, and-false}
 use Rattle.list_law.proofs.Truth.{same_tests}
 use Rattle.net_base.specs.Prefixes.{PlainPattern, IsPattern, contains}
@@ -27,6 +27,19 @@ from_block x b k clean same =
     let f : x / 2 ^ k * 2 ^ k ≡ b = ap (λ n. n * 2 ^ k) same ∙ whole b k clean in
     let low : x % 2 ^ k < 2 ^ k = mod_below x (2 ^ k) (pow_pos k) in
     (omega (arith, e, f), omega (arith, e, f, low))
+
+-- a block of addresses ends with the addresses
+pub block_ends : (b len : ℕ) → len ≤ 32 → b < 2 ^ 32 → b % 2 ^ (32 - len) ≡ 0 → b + 2 ^ (32 - len) ≤ 2 ^ 32
+block_ends b len within wide clean =
+    let k : ℕ = 32 - len in
+    let cut : 2 ^ len * 2 ^ k ≡ 2 ^ 32 = sym (pow-add 2 len k) ∙ ap (λ n. 2 ^ n) (let e : len + (32 - len) ≡ 32 = omega (arith, within) in e) in
+    let low : b / 2 ^ k < 2 ^ len = div_below b (2 ^ k) (2 ^ len) (pow_pos k) (omega (arith, cut, wide)) in
+    let le : (b / 2 ^ k + 1) * 2 ^ k ≤ 2 ^ len * 2 ^ k = mul-le (b / 2 ^ k + 1) (2 ^ k) (2 ^ len) (2 ^ k) (omega (arith, low)) (omega arith) in
+    let d : (b / 2 ^ k + 1) * 2 ^ k ≡ b / 2 ^ k * 2 ^ k + 2 ^ k = grind arith in
+    omega (arith, le, d, cut, whole b k clean)
+
+pub cut_low : (b k : ℕ) → b / 2 ^ k * 2 ^ k ≤ b
+cut_low b k = omega (arith, shr_split b k)
 
 module _ (p q : PlainPattern) (lp : IsPattern p) (lq : IsPattern q) where
   -- shorter, or as long
@@ -88,6 +101,66 @@ module _ (p q : PlainPattern) (lp : IsPattern p) (lq : IsPattern q) where
           or_right (contains q p.base) _ (contains_whole p q.base (record { least = omega (arith, lt); agree = agree; most = leb-true _ _ both.1 }))
 
   -- ---- keys
+
+  above_key : (len : ℕ) → len ≤ 32 → in_span (above p len) (key q) ≡ (len == q.base.len && (q.base.bits == p.base.bits / 2 ^ (32 - len) * 2 ^ (32 - len) && nat_le p.base.len q.upto))
+  above_key len within = same_tests (in_span (above p len) (key q)) (len == q.base.len && (q.base.bits == p.base.bits / 2 ^ (32 - len) * 2 ^ (32 - len) && nat_le p.base.len q.upto)) to from
+    where
+      cut : ℕ
+      cut = p.base.bits / 2 ^ (32 - len) * 2 ^ (32 - len)
+
+      low : cut < 2 ^ 32
+      low = omega (arith, cut_low p.base.bits (32 - len), lp.prefix.wide)
+
+      to : in_span (above p len) (key q) ≡ true → (len == q.base.len && (q.base.bits == cut && nat_le p.base.len q.upto)) ≡ true
+      to h =
+          let both = and_parts (nat_le ((len * 2 ^ 32 + cut) * 64 + p.base.len) (key q)) (nat_lt (key q) ((len * 2 ^ 32 + cut) * 64 + 64)) h in
+          let a : (len * 2 ^ 32 + cut) * 64 + p.base.len ≤ (q.base.len * 2 ^ 32 + q.base.bits) * 64 + q.upto = leb-true _ _ both.0 in
+          let b : (q.base.len * 2 ^ 32 + q.base.bits) * 64 + q.upto < (len * 2 ^ 32 + cut) * 64 + 64 = ltb-true _ _ both.1 in
+          let l : len ≡ q.base.len = omega (arith, a, b, low, lq.prefix.wide, lq.most, lp.prefix.within) in
+          let c : q.base.bits ≡ cut = omega (arith, a, b, l, lq.most) in
+          let d : p.base.len ≤ q.upto = omega (arith, a, c, l) in
+          and_from _ _ (eq-eqb _ _ l) (and_from _ _ (eq-eqb _ _ c) (le-leb _ _ d))
+
+      from : (len == q.base.len && (q.base.bits == cut && nat_le p.base.len q.upto)) ≡ true → in_span (above p len) (key q) ≡ true
+      from h =
+          let both = and_parts (len == q.base.len) (q.base.bits == cut && nat_le p.base.len q.upto) h in
+          let more = and_parts (q.base.bits == cut) (nat_le p.base.len q.upto) both.1 in
+          let l : len ≡ q.base.len = eqb-true _ _ both.0 in
+          let c : q.base.bits ≡ cut = eqb-true _ _ more.0 in
+          let d : p.base.len ≤ q.upto = leb-true _ _ more.1 in
+          let low_end : (len * 2 ^ 32 + cut) * 64 + p.base.len ≤ key q = omega (arith, l, c, d) in
+          let high_end : key q < (len * 2 ^ 32 + cut) * 64 + 64 = omega (arith, l, c, lq.most) in
+          and_from _ _ (le-leb _ _ low_end) (lt-ltb _ _ high_end)
+
+  inside_key : (len : ℕ) → in_span (inside p len) (key q) ≡ (len == q.base.len && (nat_le p.base.bits q.base.bits && nat_lt q.base.bits (p.base.bits + 2 ^ (32 - p.base.len))))
+  inside_key len = same_tests (in_span (inside p len) (key q)) (len == q.base.len && (nat_le p.base.bits q.base.bits && nat_lt q.base.bits (p.base.bits + 2 ^ (32 - p.base.len)))) to from
+    where
+      size : ℕ
+      size = 2 ^ (32 - p.base.len)
+
+      ends : p.base.bits + size ≤ 2 ^ 32
+      ends = block_ends p.base.bits p.base.len lp.prefix.within lp.prefix.wide lp.prefix.clean
+
+      to : in_span (inside p len) (key q) ≡ true → (len == q.base.len && (nat_le p.base.bits q.base.bits && nat_lt q.base.bits (p.base.bits + size))) ≡ true
+      to h =
+          let both = and_parts (nat_le ((len * 2 ^ 32 + p.base.bits) * 64) (key q)) (nat_lt (key q) ((len * 2 ^ 32 + p.base.bits + size) * 64)) h in
+          let a : (len * 2 ^ 32 + p.base.bits) * 64 ≤ (q.base.len * 2 ^ 32 + q.base.bits) * 64 + q.upto = leb-true _ _ both.0 in
+          let b : (q.base.len * 2 ^ 32 + q.base.bits) * 64 + q.upto < (len * 2 ^ 32 + p.base.bits + size) * 64 = ltb-true _ _ both.1 in
+          let l : len ≡ q.base.len = omega (arith, a, b, ends, lq.prefix.wide, lq.most) in
+          let c : p.base.bits ≤ q.base.bits = omega (arith, a, l, lq.most) in
+          let d : q.base.bits < p.base.bits + size = omega (arith, b, l) in
+          and_from _ _ (eq-eqb _ _ l) (and_from _ _ (le-leb _ _ c) (lt-ltb _ _ d))
+
+      from : (len == q.base.len && (nat_le p.base.bits q.base.bits && nat_lt q.base.bits (p.base.bits + size))) ≡ true → in_span (inside p len) (key q) ≡ true
+      from h =
+          let both = and_parts (len == q.base.len) (nat_le p.base.bits q.base.bits && nat_lt q.base.bits (p.base.bits + size)) h in
+          let more = and_parts (nat_le p.base.bits q.base.bits) (nat_lt q.base.bits (p.base.bits + size)) both.1 in
+          let l : len ≡ q.base.len = eqb-true _ _ both.0 in
+          let c : p.base.bits ≤ q.base.bits = leb-true _ _ more.0 in
+          let d : q.base.bits < p.base.bits + size = ltb-true _ _ more.1 in
+          let low_end : (len * 2 ^ 32 + p.base.bits) * 64 ≤ key q = omega (arith, l, c) in
+          let high_end : key q < (len * 2 ^ 32 + p.base.bits + size) * 64 = omega (arith, l, d, lq.most) in
+          and_from _ _ (le-leb _ _ low_end) (lt-ltb _ _ high_end)
 
   -- the span of a length has the keys of the patterns of that length that overlap
   pub span_key : (len : ℕ) → len ≤ 32 → in_span (span_at p len) (key q) ≡ (len == q.base.len && overlap q p)

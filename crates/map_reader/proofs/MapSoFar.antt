@@ -217,6 +217,9 @@ number_is : (number : Option ℕ) (n : ℕ) → is_number_of number n ≡ true �
 number_is None n h = absurd cc
 number_is (Some k) n h = ap Some (eqb-true k (10 * n) h)
 
+numbered_entry : (number : Option ℕ) (n m : ℕ) (l : Line) → m ≡ n + 1 → is_number_of number m ≡ true → written.Entry (Some (10 * (n + 1))) l ≡ written.Entry number l
+numbered_entry number n m l e is = ap (λ (o : Option ℕ). written.Entry o l) (ap (λ k. Some (10 * k)) (sym e) ∙ sym (number_is number m is))
+
 -- an entry's number is that of its place
 entry_line : (r b : Reading) (number : Option ℕ) (l : Line) → IsEntry l → after r l ≡ Ok b → is_number_of number (entries_of (is_out l) b) ≡ true → number_line (counts r) l ≡ written.Entry number l
 entry_line r b number (line.Import rule) is h n =

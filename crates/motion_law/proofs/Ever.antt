@@ -4,15 +4,17 @@ use Rattle.std.specs.List.{list_any}
 use Rattle.std.proofs.lemmas.Bool.{and_parts, cases_Bool, not-true, not_from_false, true≢false}
 use Rattle.net_base.specs.declared.numbers.Tag.{Tag}
 use Rattle.net_base.specs.Network.{PlainNet, IsNet, is_location, is_peer, is_router}
+use Rattle.net_base.specs.Numbers.{no_tag}
 use Rattle.net_base.specs.Prefixes.{PlainPrefix, IsPrefix}
+use Rattle.net_base.proofs.RoutersAndPeers.{peer_no_router}
 use Rattle.policy_base.specs.Policies.{PlainPolicy, PlainStatement, IsPolicyOf}
 use Rattle.policy_base.specs.Governing.{is_origin, statement_of}
 use Rattle.policy_base.specs.Permitted.{is_permitted, is_allowed, IsClaimedRouter}
 use Rattle.config_base.specs.declared.route.Route.{Route}
 use Rattle.config_base.specs.Configs.{PlainConfig}
-use Rattle.config_base.specs.Lines.{class_of, export_of, own_route}
+use Rattle.config_base.specs.Lines.{as_path, class_of, export_of, import_of, own_route}
 use Rattle.evidence_base.specs.Made.{PlainCaseEvidence, number_at}
-use Rattle.outcome_base.specs.Announcements.{FullRoute, Sent, is_ours}
+use Rattle.outcome_base.specs.Announcements.{Announced, FullRoute, Sent, is_ours, refuses}
 use Rattle.outcome_base.specs.Outcomes.{no_failures}
 use Rattle.evidence_law.specs.Passes.{Passes}
 use Rattle.evidence_law.proofs.MadeCases.{has_no_class}
@@ -22,17 +24,17 @@ use Rattle.std.proofs.lemmas.Option.{same_Some}
 use Rattle.routing_law.specs.Graph as graph
 use Rattle.routing_law.specs.Lines as line
 use Rattle.routing_law.specs.Spells as spelled
-use Rattle.event_base.specs.Speaking.{message}
+use Rattle.event_base.specs.Speaking.{extended, message}
 use Rattle.outcome_law.proofs.Peers.{no_line}
 use Rattle.settled_law.proofs.SettledLaw.{CaseFound, case_or_bare}
 use Rattle.event_law.specs.Waiting.{HasRun}
 use Rattle.event_law.proofs.Moments.{claimed_allowed, run_ends}
 use Rattle.event_law.proofs.Offers.{known, lines_here}
-use Rattle.event_law.proofs.Running.{RunsAt, RunsTo, sent_on, sent_own}
+use Rattle.event_law.proofs.Running.{RunsAt, RunsTo, from_peer, from_router, sent_on, sent_own}
 use Rattle.event_law.proofs.Waiting.{has_run, sent_allowed}
 use Rattle.motion_law.specs.Ever.{EveryRouteIsAllowed, IsAllowedEver, IsBareEver, IsRightEver, MayHold, MaySend}
 use Rattle.motion_law.specs.Ever.{MayHold as may}
-use Rattle.motion_law.proofs.Taken.{line_at, taken_line}
+use Rattle.motion_law.proofs.Taken.{imported, line_at, tag_ignored, taken_line, unlooped, unlooped_behind}
 
 module _ (net : PlainNet) (policy : PlainPolicy) (config : PlainConfig) (p : PlainPrefix) (class : ℕ) (rules : IsNet net) (of_class : class_of config p ≡ Some class)
     (g : graph.Graph) (tag : ℕ → line.Tag) (written : spelled.Written (network_of net (is_origin net policy p)) g tag (lines_of net config p class))
@@ -49,12 +51,42 @@ module _ (net : PlainNet) (policy : PlainPolicy) (config : PlainConfig) (p : Pla
   same_class : (k : ℕ) → class_of config p ≡ Some k → k ≡ class
   same_class k e = same_Some k class (sym e ∙ of_class)
 
+  -- what a router that isn't an origin takes
+  taken_fine : (r : ℕ) (t : FullRoute) (h : Route) (behind : List ℕ) → is_router net r ≡ true → is_origin net policy p r ≡ false → t ≡ record { route = h; behind = behind }
+      → RunsAt g tag r h → list_any (is_ours net) behind ≡ false → IsFine r t
+  taken_fine r t h behind router off is runs clean = record {
+    router = router;
+    own = λ o. absurd (true≢false (sym o ∙ off));
+    other = λ o. subst (λ (x : FullRoute). RunsAt g tag r x.route) (sym is) runs;
+    clean = subst (λ (x : FullRoute). list_any (is_ours net) x.behind ≡ false) (sym is) clean;
+  }
+
   -- what a fine route's lines send
   pub sent_fine : (a b : ℕ) (x : FullRoute) (t : Tag) → IsFine a x → export_of net config class a b x.route.tag ≡ Some t → RunsTo net g tag a b (message x.route t)
   sent_fine a b x t fine e = elim (cases_Bool (is_origin net policy p a)) [
     | inl origin ↦ sent_own net policy config p class rules of_class g tag written known a b x.route t fine.router origin (fine.own origin) e
     | inr other ↦ (let y = fine.other other in sent_on net policy config p class rules of_class g tag written known a b x.route t y.rest y.node fine.router e y.begins y.free y.runs y.tag_is)
   ]
+
+  peer_fine : (r peer : ℕ) (a : Announced) (t : FullRoute) (q : Tag × ℕ) → is_router net r ≡ true → is_origin net policy p r ≡ false → is_peer net peer ≡ true
+      → refuses net r peer (as_path net (peer ∷ []) ++ a.behind) ≡ false → line_at net config class r peer a.tag ≡ Some q
+      → t ≡ record { route = record { path = r ∷ peer ∷ []; tag = q.0; pref = q.1 }; behind = a.behind } → IsFine r t
+  peer_fine r peer a t q router off at_peer clear l is = elim (cases_Bool (is_origin net policy p peer)) [
+    | inr other ↦ absurd (none_or_some (line_at net config class r peer a.tag) q (unlined peer r at_peer router other a.tag) l)
+    | inl origin ↦
+        let m : Route = record { path = peer ∷ []; tag = no_tag; pref = 0 } in
+        let e : import_of net config class r peer (peer ∷ []) no_tag ≡ Some q =
+        imported net config class r peer (peer ∷ []) no_tag q (unlooped net r peer (peer ∷ []) a.behind clear) (tag_ignored net config class r peer no_tag a.tag at_peer ∙ l) in
+        taken_fine r t (extended r m q) a.behind router off is (from_peer net policy config p class rules of_class g tag written known r peer m q router (peer_no_router net peer at_peer) origin refl refl e)
+        (unlooped_behind net r peer (peer ∷ []) a.behind at_peer clear)
+  ]
+
+  router_fine : (r u : ℕ) (x t : FullRoute) (s : Tag) (q : Tag × ℕ) → is_router net r ≡ true → is_origin net policy p r ≡ false → is_router net u ≡ true → IsFine u x
+      → export_of net config class u r x.route.tag ≡ Some s → refuses net r u (as_path net x.route.path ++ x.behind) ≡ false → line_at net config class r u s ≡ Some q
+      → t ≡ record { route = record { path = r ∷ x.route.path; tag = q.0; pref = q.1 }; behind = x.behind } → IsFine r t
+  router_fine r u x t s q router off at_router fine out clear l is =
+      let e : import_of net config class r u x.route.path s ≡ Some q = imported net config class r u x.route.path s q (unlooped net r u x.route.path x.behind clear) l in
+      taken_fine r t (extended r (message x.route s) q) x.behind router off is (from_router net policy config p class rules of_class g tag written known r u (message x.route s) q router at_router (sent_fine u r x s fine out) e) fine.clean
 
   pub all_fine : (r : ℕ) (t : FullRoute) → MayHold net policy config p r t → IsFine r t
   all_fine r t (may.own who) =

@@ -44,6 +44,12 @@ unlooped net v u path behind h = by (is_peer net u) h
     by false h = (or_parts (list_any (λ n. n == asn_of net v) (as_path net path)) (list_any (λ n. n == asn_of net v) behind)
         (sym (list_any-append (λ n. n == asn_of net v) (as_path net path) behind) ∙ h)).0
 
+-- and where a peer sent it, no router's number stands behind it
+pub unlooped_behind : (net : PlainNet) (v u : ℕ) (path behind : List ℕ) → is_peer net u ≡ true → refuses net v u (as_path net path ++ behind) ≡ false → list_any (is_ours net) behind ≡ false
+unlooped_behind net v u path behind peer h =
+    let whole : list_any (is_ours net) (as_path net path ++ behind) ≡ false = (rw peer refl) ∙ h in
+    (or_parts (list_any (is_ours net) (as_path net path)) (list_any (is_ours net) behind) (sym (list_any-append (is_ours net) (as_path net path) behind) ∙ whole)).1
+
 -- and what a line takes is imported
 pub imported : (net : PlainNet) (config : PlainConfig) (class v u : ℕ) (path : List ℕ) (tag : Tag) (q : Tag × ℕ) → is_looped net v u path ≡ false → line_at net config class v u tag ≡ Some q
     → import_of net config class v u path tag ≡ Some q

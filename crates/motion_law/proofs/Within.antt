@@ -2,7 +2,8 @@
 use Rattle.std.proofs.Common.{◌≡◌, ℕ, zero, suc, Bool, true, false, List, [], ◌∷◌, ◌++◌, Option, Some, None, refl, sym, ap, ◌∙◌, subst, inl, inr}
 use Rattle.std.specs.Prelude.{◌&&◌, not, option_map, slice_get, if◌then◌else◌}
 use Rattle.std.specs.Option.{option_and_then}
-use Rattle.std.proofs.lemmas.Bool.{and_from, and_parts, cases_Bool, cond-true, cond-false, eqb-true, le-leb, ltb-false, true≢false}
+use Rattle.std.proofs.lemmas.Bool.{and_from, and_parts, cases_Bool, cond-true, cond-false, eqb-true, le-leb, ltb-false, not_from_false, true≢false}
+use Rattle.std.proofs.lemmas.Option.{same_Some}
 use Rattle.list_law.proofs.Options.{none_or_some, option_and_then_parts, option_map_parts}
 use Rattle.net_base.specs.Network.{PlainNet, IsNet, is_peer, is_router, linked}
 use Rattle.net_base.specs.Prefixes.{PlainPrefix}
@@ -12,7 +13,7 @@ use Rattle.policy_base.specs.Governing.{is_origin}
 use Rattle.config_base.specs.Configs.{PlainConfig}
 use Rattle.config_base.specs.Lines.{class_of, export_of, own_route}
 use Rattle.event_base.specs.World.{at, is, joins, touches}
-use Rattle.outcome_base.specs.Announcements.{Announced, FullRoute, Sent}
+use Rattle.outcome_base.specs.Announcements.{Announced, FullRoute, Sent, taken_under}
 use Rattle.motion_law.specs.Ever.{IsAllowedEver, MayHold, MayHold as may, MaySend}
 use Rattle.motion_law.specs.Motion.{Motion, Move, Move as move, after_moves, announced, at_the_start, begun, choice_of, cleared, cut_is, down_is, gift, giver_of, has_to_say, heard_by, holds_on}
 use Rattle.motion_law.specs.Motion.{live_in, moved, next_heard, nothing_there, picked, queues, route_is, same_sent, says_is, told, with_tag}
@@ -162,6 +163,26 @@ module _ (net : PlainNet) (policy : PlainPolicy) (config : PlainConfig) (p : Pla
   ]
 
   -- ---- what is chosen
+
+  gift-kind : (w : Motion) (r u : ℕ) → AreKinds w → is_router net r ≡ true → is_origin net policy p r ≡ false → If (Held r) (gift net policy config p w r u)
+  gift-kind w r u k router other t e =
+      let class = option_and_then_parts (λ k. option_and_then (taken_under net config k r u) (w.heard u r)) (class_of config p) t e in
+      let m = option_and_then_parts (taken_under net config class.0 r u) (w.heard u r) t class.2 in
+      let on = k.heard u r m.0 m.1 in
+      let who = and_from (is_router net r) _ router (not_from_false _ other) in
+      elim (cases_Bool (is_router net u)) [
+        | inl from ↦
+            let s = on.router from in
+            let same : s.class ≡ class.0 = same_Some s.class class.0 (sym s.of_class ∙ class.1) in
+            let out = subst (λ (i : ℕ). export_of net config i u r s.of.route.tag ≡ Some m.0.tag) same s.permits in
+            let takes : taken_under net config class.0 r u (record { path = s.of.route.path; behind = s.of.behind; tag = m.0.tag }) ≡ Some t =
+            subst (λ (q : List ℕ). taken_under net config class.0 r u (record { path = q; behind = s.of.behind; tag = m.0.tag }) ≡ Some t) s.path
+            (subst (λ (q : List ℕ). taken_under net config class.0 r u (record { path = m.0.path; behind = q; tag = m.0.tag }) ≡ Some t) s.behind m.2) in
+            may.of_router u class.0 s.of m.0.tag who from s.held class.1 out takes
+        | inr off ↦
+            let x = on.peer off in
+            may.of_peer u class.0 x.1 who x.0 class.1 (subst (λ (z : Sent). taken_under net config class.0 r u z ≡ Some t) x.2 m.2)
+      ]
 
   picked-kind : (w : Motion) (r u : ℕ) → AreKinds w → is_router net r ≡ true → is_origin net policy p r ≡ false → If (Held r) (picked net policy config p w r u)
   picked-kind w r u k router other t e = elim (cases_Bool (holds_on net policy config p w r)) [

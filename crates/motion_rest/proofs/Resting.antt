@@ -16,7 +16,7 @@ use Rattle.outcome_base.specs.Announcements.{Announced, FullRoute, taken_under}
 use Rattle.outcome_base.specs.Outcomes.{Failures, is_dead, is_live, no_failures}
 use Rattle.evidence_law.specs.Passes.{Passes}
 use Rattle.evidence_law.proofs.Setting.{network_of}
-use Rattle.settled_law.proofs.SettledLaw.{CaseFound}
+use Rattle.settled_law.proofs.SettledLaw.{CaseFound, case_or_bare}
 use Rattle.routing_law.specs.Graph as graph
 use Rattle.routing_law.specs.Outcome as outcomes
 use Rattle.event_law.proofs.Offers.{lines_here}
@@ -223,6 +223,26 @@ module _ (net : PlainNet) (policy : PlainPolicy) (config : PlainConfig) (cs : Li
 module _ (net : PlainNet) (policy : PlainPolicy) (config : PlainConfig) (cs : List PlainCaseEvidence) (rules : IsNet net)
     (kept : IsPolicyOf net policy) (passes : Passes net policy config cs) (p : PlainPrefix) (prefix : IsPrefix p) (w : Motion)
     (keeps : IsKept net policy config p w) (kinds : AreKinds net policy config p rules w) where
+  rests_from : (f : Failures) (s : Schedule) (end : ℕ) → IsScenarioIn net w f → IsCalm s → AreRounds net policy config p s w (rounds_enough net) 0 end → RestsFrom net policy config p f s w end
+  rests_from f s end scenario calm rs t late =
+      let k = rounds_enough net in
+      let time : ℕ → ℕ = λ i. time_of net policy config p s w i k 0 end rs in
+      let rounds : (i : ℕ) → i < k → IsRound net policy config p s w (time i) (time (suc i)) = λ i l. round_of net policy config p s w i k 0 end rs l in
+      let grows : (i : ℕ) → time i ≤ time (suc i) = λ i. grow net policy config p s w i k 0 end rs in
+      elim (case_or_bare net policy config cs rules kept passes no_failures p prefix) [
+        | inr free ↦ (
+            let m = by_end net policy config p s w 1 k 0 end rs in
+            let first = rounds 0 (omega arith) in (
+              at_rest net policy config p rules f w scenario s calm keeps (time 0) (time 1) first (λ a b i live j. same_bare net policy config p free s calm w keeps a b i (time 0)) t (omega (arith, m, late)),
+              λ r router. bare_stays net policy config p free s calm w keeps rules f scenario (time 0) (time 1) first t end r (omega (arith, m, late)) m router,
+            ))
+        | inl c ↦ (
+            let last = after (length net.routers + length net.peers) (suc (length net.routers + length net.peers) * suc (length net.routers + length net.peers)) in
+            let m = by_end net policy config p s w (suc last) k 0 end rs in (
+              rests net policy config cs rules kept passes p prefix c f w scenario s calm keeps kinds time grows rounds t (omega (arith, m, late)),
+              λ r router. stays net policy config cs rules kept passes p prefix c f w scenario s calm keeps kinds time grows rounds t end r (omega (arith, m, late)) m router,
+            ))
+      ]
 
 pub passing_evidence_rests : PassingEvidenceRests
 passing_evidence_rests net policy config cs rules kept passes p prefix = record {

@@ -1,9 +1,9 @@
 -- Over a link that is listed as idle no packet goes, and over every other live link some packet does.
 use Rattle.std.proofs.Common.{◌≡◌, ℕ, Bool, true, List, [], ◌∷◌, refl, sym, ◌∙◌, inl, inr, subst}
 use Rattle.std.specs.Prelude.{◌⊎◌, not}
-use Rattle.std.proofs.lemmas.Bool.{cases_Bool, false_from_ne_true, not_from_false}
+use Rattle.std.proofs.lemmas.Bool.{cases_Bool, false_from_ne_true, not-true, not_from_false, true≢false}
 use Rattle.list_law.specs.Members.{IsIn}
-use Rattle.list_law.proofs.Members.{IsIn-filter}
+use Rattle.list_law.proofs.Members.{IsIn-filter, IsIn-filter_parts}
 use Rattle.net_base.specs.Network.{PlainNet, IsNet, joins}
 use Rattle.net_base.specs.Prefixes.{PlainPrefix}
 use Rattle.net_base.proofs.Links.{joins_ends, joins_straight, joins_turned}
@@ -27,6 +27,11 @@ module _ (net : PlainNet) (policy : PlainPolicy) (config : PlainConfig) (rules :
     (stable : IsStable net policy config f p outcome) (are : IsMultipath net policy config f p outcome m) (a b : ℕ) (lives : IsIn (live_links net f) (a, b)) where
   abbrev unused : ℕ × ℕ → Bool
   unused link = not (are.is_used link)
+
+  not_used : IsIn m.idle (a, b) → IsUsed net policy config f p outcome a b → ⊥
+  not_used idle used =
+      let at = IsIn-filter_parts unused (live_links net f) (a, b) (subst (λ (ls : List (ℕ × ℕ)). IsIn ls (a, b)) are.idle idle) in
+      true≢false (sym ((are.each (a, b) lives).1 used) ∙ not-true (are.is_used (a, b)) at.1)
 
   nothing : IsIn m.idle (a, b) → CarriesNothing net policy config f p outcome a b
   nothing idle = record {

@@ -22,6 +22,17 @@ ends_known net a b link rules x y =
     let total = length net.routers + length net.peers in
     (lt-ltb a total (omega (arith, rules.0, rules.1, x)), lt-ltb b total (omega (arith, rules.1, y)))
 
+joins_known : (net : PlainNet) (a b : ℕ) (link : ℕ × ℕ) → IsLink net link → joins a b link ≡ true → (is_location net a ≡ true) × (is_location net b ≡ true)
+joins_known net a b link rules h = elim (or_cases (link.0 == a && link.1 == b) (link.0 == b && link.1 == a) h) [
+  | inl t ↦
+      let parts = and_parts (link.0 == a) (link.1 == b) t in
+      ends_known net a b link rules (eqb-true link.0 a parts.0) (eqb-true link.1 b parts.1)
+  | inr t ↦
+      let parts = and_parts (link.0 == b) (link.1 == a) t in
+      let both = ends_known net b a link rules (eqb-true link.0 b parts.0) (eqb-true link.1 a parts.1) in
+      (both.1, both.0)
+]
+
 -- what is linked is a location
 pub linked_known : (net : PlainNet) (a b : ℕ) → IsNet net → linked net a b ≡ true → (is_location net a ≡ true) × (is_location net b ≡ true)
 linked_known net a b rules h =

@@ -22,7 +22,7 @@ use Rattle.net_base.proofs.Links.{same_ends-swap}
 use Rattle.topology.specs.declared.fault.TopoFault.{TopoFault}
 use Rattle.topology.specs.declared.fault.TopoFault.TheVariants.{LinkTwice, SelfLink, PeerLink}
 use Rattle.topology.specs.declared.sites.Number.TheVariants as which
-use Rattle.topology.specs.Rules.{no_fault, named, site_of, is_lawful_as, joined, put, links_differ, ends_differ, routers_linked, links_of, counted, names_differ}
+use Rattle.topology.specs.Rules.{no_fault, named, site_of, is_lawful_as, joined, put, ascending, links_differ, ends_differ, routers_linked, links_of, counted, names_differ}
 use Rattle.topology.specs.Rules.{numbers_differ, names_of, judged}
 use Rattle.topology.specs.Shape.{each, Entry}
 use Rattle.topology.proofs.EntryFaults.{names_break, asns_break, ids_break}
@@ -136,6 +136,7 @@ unfolding IsDistinct
 distinct_links [] a = tt
 distinct_links (l ∷ ls) a = (all_apart l ls a.0, distinct_links ls a.1)
 
+links_differ_again : (links : List (ℕ × ℕ)) → Ascend links → links_differ links ≡ Ok tt
 unfolding links_differ
 links_differ_again links a =
     kept (links_differ links)
@@ -188,6 +189,13 @@ fold_put xs (l ∷ ls) are a = rw (put_last xs l are.0) (fold_put (xs ++ l ∷ [
         → AllByRecursion (IsBefore l) ls → AllByRecursion (λ m. AllByRecursion (λ x. IsBefore x m) (xs ++ l ∷ [])) ls
     more xs l [] are after = tt
     more xs l (m ∷ ms) are after = (AllByRecursion-push (λ x. IsBefore x m) xs l are.0 after.0, more xs l ms are.1 after.1)
+
+ascending_again : (links : List (ℕ × ℕ)) → Ascend links → ascending links ≡ links
+ascending_again links a = fold_put [] links (all links) a
+  where
+    all : (ls : List (ℕ × ℕ)) → AllByRecursion (λ l. AllByRecursion (λ x. IsBefore x l) []) ls
+    all [] = tt
+    all (l ∷ ls) = (tt, all ls)
 
 -- ---- the whole
 

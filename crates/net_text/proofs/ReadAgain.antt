@@ -1,7 +1,8 @@
 -- The text of a network spells that network.
-use Rattle.std.proofs.Common.{◌≡◌, ℕ, ◌+◌, ◌<◌, ◌^◌, List, [], ◌∷◌, length, Ok, refl, arith, length-append}
+use Rattle.std.proofs.Common.{◌≡◌, ℕ, ◌+◌, ◌<◌, ◌^◌, List, [], ◌∷◌, length, Some, Ok, refl, arith, length-append}
 use Rattle.std.specs.Prelude.{◌≢◌, IsTrue}
 use Rattle.std.specs.List.{AllByRecursion}
+use Rattle.json_values.specs.Json.{json_of}
 use Rattle.json_values.proofs.ReadAgain.{json_of-line}
 use Rattle.list_law.proofs.Each.{AllByRecursion-append, AllByRecursion-append_parts, AllByRecursion-weaker, AllByRecursion_at}
 use Rattle.list_law.proofs.Items.{slice_get_inside}
@@ -35,6 +36,8 @@ all_ends : (net : PlainNet) (links : List (ℕ × ℕ)) → HaveNames (sites net
 all_ends net [] names are = tt
 all_ends net (l ∷ ls) names are = ((named_at net l.0 names (omega (arith, are.0.0, are.0.1)), named_at net l.1 names are.0.1), all_ends net ls names are.1)
 
+spelled_there : (bytes : List ℕ) (net : PlainNet) → json_of bytes ≡ Some (net_data net) → AllByRecursion IsWritten net.routers → AllByRecursion IsWritten net.peers
+    → IsNet net → HaveNames net.routers → HaveNames net.peers → spelled bytes ≡ Ok net
 unfolding spelled
 spelled_there bytes net value routers peers is router_names peer_names = rw (value, shape_again net routers peers, judged_again net is router_names peer_names) refl
 

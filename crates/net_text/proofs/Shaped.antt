@@ -49,6 +49,7 @@ entry_again : (s : Site) → IsWritten s → entry_of (site_data s) ≡ Ok (site
 unfolding entry_of site_data serde_json_on_literals
 entry_again s is = rw (address_of-address_text s.id is.id.1, ne_eqb s.id 0 is.id.0) refl
 
+entries_again : (sites : List Site) → AllByRecursion IsWritten sites → each entry_of (map site_data sites) ≡ Ok (map site_entry sites)
 unfolding each
 entries_again sites are = each_map IsWritten entry_of site_data site_entry entry_again 1 sites are
 

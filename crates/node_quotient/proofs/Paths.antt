@@ -4,13 +4,15 @@ use Rattle.std.proofs.Common.{Some, None, refl, sym, ap, ◌∙◌, subst, inl, 
 use Rattle.std.specs.Prelude.{◌||◌, is_some, nat_eq}
 use Rattle.std.specs.Option.{option_eq}
 use Rattle.std.proofs.lemmas.Bool.{both_ways, false_from_ne_true, not-false, not-true, or_cases, or_parts}
-use Rattle.list_law.proofs.Options.{is-option_eq, is_some_from, is_some_parts, option_eq-is}
+use Rattle.std.proofs.lemmas.List.{length-append}
+use Rattle.list_law.proofs.Options.{is-option_eq, is_some_from, is_some_parts, none_or_some, option_eq-is}
 use Rattle.graph_base.specs.Graphs.{PlainGraph, IsGraph}
 use Rattle.graph_base.specs.Least.{least_below}
 use Rattle.graph_base.specs.Runs.{place_of, rank_at, step_at}
 use Rattle.graph_base.proofs.Least.{least_exists, least_passes}
 use Rattle.graph_base.proofs.StartsAndSteps.{step_at-is, step_nodes}
 use Rattle.node_quotient.specs.Quotient.{follow, end_of}
+use Rattle.node_quotient.proofs.Least.{follow_on}
 
 -- one node alone, or two that are apart
 abbrev differ : (ℕ → ℕ → Bool) → Option ℕ → Option ℕ → Bool
@@ -42,6 +44,23 @@ module _ (g : PlainGraph) (ok : IsGraph g) where
     omega arith,
     λ e. let same : rank_at g m ≡ rank_at g n = cc in both_ways _ (not-true _ h) (is-option_eq (rank_at g m) (rank_at g n) same),
   )
+
+  by_steps : (k m n l : ℕ) → ((a b : ℕ) → apart k a b ≡ true → Path k a b) → (o : Option ℕ) → step_at g m l ≡ o → (p : Option ℕ) → step_at g n l ≡ p
+      → differ (apart k) o p ≡ true → Path (suc k) m n
+  by_steps k m n l on None h None i d = absurd (cc)
+  by_steps k m n l on None h (Some b) i d =
+      (l ∷ [], omega arith, λ e. none_or_some (end_of g n (l ∷ [])) (rank_at g b) (sym e ∙ ap (option_map (rank_at g)) h) (ap (option_map (rank_at g)) i))
+  by_steps k m n l on (Some a) h None i d =
+      (l ∷ [], omega arith, λ e. none_or_some (end_of g m (l ∷ [])) (rank_at g a) (e ∙ ap (option_map (rank_at g)) i) (ap (option_map (rank_at g)) h))
+  by_steps k m n l on (Some a) h (Some b) i d =
+      let p = on a b d in
+      let short = p.1 in
+      let long = length-append p.0 (l ∷ []) in (
+        p.0 ++ l ∷ [],
+        omega (arith, short, long),
+        λ e. p.2
+            (sym (ap (option_map (rank_at g)) (follow_on g m l a h p.0)) ∙ e ∙ ap (option_map (rank_at g)) (follow_on g n l b i p.0)),
+      )
 
   pub path_apart : (k m n : ℕ) → apart k m n ≡ true → Path k m n
   path_apart zero m n h = by_rank zero m n h

@@ -5,6 +5,7 @@ use Rattle.std.specs.List.{list_any}
 use Rattle.std.proofs.lemmas.Bool.{and_parts, cases_Bool}
 use Rattle.std.proofs.lemmas.List.{append-nil}
 use Rattle.list_law.proofs.Options.{cases_Option, none_or_some}
+use Rattle.net_base.specs.declared.numbers.Tag.{Tag}
 use Rattle.net_base.specs.Network.{PlainNet, IsNet, asn_of, is_peer, is_router}
 use Rattle.net_base.specs.Prefixes.{PlainPrefix, IsPrefix}
 use Rattle.net_base.proofs.Links.{linked_known}
@@ -42,6 +43,10 @@ module _ (net : PlainNet) (policy : PlainPolicy) (config : PlainConfig) (cs : Li
 
   plain_unsent : sent net policy config Mute p (inside full) r peer ≡ None → offered net policy config Mute p (inside full) r peer ≡ None
   plain_unsent s = rw (s, live, router, at_peer) refl
+
+  plain_sent : (path : List ℕ) (t : Tag) → sent net policy config Mute p (inside full) r peer ≡ Some (path, t)
+      → offered net policy config Mute p (inside full) r peer ≡ (if stands_on peer path then None else Some (peer ∷ path))
+  plain_sent path t s = rw (s, live, router, at_peer) refl
 
   under_unsent : sent_under net config f says p full r peer ≡ None → offered_under net config f says p full r peer ≡ None
   under_unsent s = rw (s, live, router, at_peer) refl

@@ -141,6 +141,10 @@ ahead_of_ahead p q t path later last (inl a) (inr b) = inl (omega (arith, a, b.0
 ahead_of_ahead p q t path later last (inr a) (inl b) = inl (omega (arith, a.0, b))
 ahead_of_ahead p q t path later last (inr a) (inr b) = inr (omega (arith, a.0, b.0), omega (arith, a.1, b.1))
 
+never_ahead : (p q : PlainPrefix) (path later : List ℕ) → p ≡ q → path ≡ later → IsAhead p path q later → ⊥
+never_ahead p q path later same one (inl a) = let len : p.len ≡ q.len = ap (λ (c : PlainPrefix). c.len) same in omega (arith, len, a)
+never_ahead p q path later same one (inr a) = let long : length path ≡ length later = ap length one in omega (arith, long, a.1)
+
 tail_is : (x y : ℕ) (xs ys : List ℕ) → x ∷ xs ≡ y ∷ ys → xs ≡ ys
 tail_is x y xs ys h = cc
 

@@ -1,6 +1,6 @@
 -- In the block of a peer there is no import line for the class of a prefix of which the peer is no origin.
 use Rattle.std.proofs.Common.{◌≡◌, ℕ, suc, Bool, true, false, List, Option, Some, None, refl, sym, ap, ◌∙◌, inl, inr, subst}
-use Rattle.std.specs.Prelude.{◌||◌, ◌==◌, is_some}
+use Rattle.std.specs.Prelude.{◌||◌, ◌==◌, is_some, not}
 use Rattle.std.specs.List.{find}
 use Rattle.std.specs.Option.{option_and_then}
 use Rattle.std.proofs.lemmas.Bool.{and_parts, eqb-true, false_from_ne_true, not-true, or_cases, true≢false}
@@ -10,15 +10,17 @@ use Rattle.list_law.proofs.Options.{cases_Option, none_from, none_or_some, optio
 use Rattle.list_law.proofs.Tests.{find_parts, list_any_parts}
 use Rattle.net_base.specs.declared.loc.LocSet.{LocSet}
 use Rattle.net_base.specs.declared.numbers.Tag.{Tag}
-use Rattle.net_base.specs.Network.{PlainNet, IsNet, is_peer, is_router}
+use Rattle.net_base.specs.Network.{PlainNet, IsNet, is_peer, is_router, linked}
 use Rattle.net_base.specs.Sets.{holds}
 use Rattle.net_base.specs.Prefixes.{PlainPrefix, IsPrefix}
 use Rattle.net_base.proofs.RoutersAndPeers.{peer_no_router}
 use Rattle.policy_base.specs.Policies.{PlainPolicy, PlainStatement, IsPolicyOf}
 use Rattle.policy_base.specs.Governing.{is_origin, is_origin_by, originated_at}
 use Rattle.graph_base.specs.Runs.{place_of, is_start}
+use Rattle.graph_base.proofs.StartsAndSteps.{step_nodes}
 use Rattle.config_base.specs.declared.config.Session.{Session}
 use Rattle.config_base.specs.declared.config.Import.{Import}
+use Rattle.config_base.specs.declared.config.Export.{Export}
 use Rattle.config_base.specs.Configs.{PlainConfig}
 use Rattle.config_base.specs.Lines.{class_of, block_at, export_of, line_by, same_tag}
 use Rattle.evidence_base.specs.Made.{PlainCaseEvidence, case_at}
@@ -86,6 +88,23 @@ module _ (net : PlainNet) (policy : PlainPolicy) (config : PlainConfig) (cs : Li
         let back = find_parts (imports_tag net peer class tag) b.0.imports rule.0 rule.1 in
         let parts = and_parts (rule.0.class == class) (is_peer net peer || same_tag rule.0.tag tag) back.2 in
         no_rule b.0 rule.0 b.1 (back.0, back.1) (eqb-true rule.0.class class parts.0))
+
+  -- and in the block of a peer that is an origin there is no export line for it
+  pub no_export_line : (peer r : ℕ) → is_router net r ≡ true → is_origin net policy p peer ≡ true → (b : Session) (e : Export)
+      → block_at net config r peer ≡ Some b → IsIn b.exports e → e.class ≡ class → ⊥
+  no_export_line peer r router origin b e at item same =
+      let block = (block_only net policy cs config rules made.lines r peer b router at).1 in
+      let line = (block.exports e).0 item in
+      let case = case_origins line.case (sym (ap (case_at cs) same) ∙ line.step.at_class) in
+      let formed = case.2.faithful.formed in
+      let within = (step_nodes line.case.graph line.node line.next case.2.graph line.step.step).1 in
+      let there : holds line.case.case.origins (place_of line.case.graph line.next) ≡ true = ap (holds line.case.case.origins) line.step.to ∙ ap (λ (o : ℕ → Bool). o peer) case.0 ∙ origin in
+      let start = formed.alone line.next within there in
+      let none =
+      not-true _ (and_parts (linked net (place_of line.case.graph line.node) (place_of line.case.graph line.next))
+      (not (is_start line.case.graph line.next)) (formed.links line.node line.next line.step.step)).1
+      in
+      true≢false (sym start ∙ none)
 
   pub nothing_exported : (peer r : ℕ) (tag : Tag) → is_router net r ≡ true → is_origin net policy p peer ≡ true → export_of net config class r peer tag ≡ None
   nothing_exported peer r tag router origin = none_from (export_of net config class r peer tag) (λ y h.

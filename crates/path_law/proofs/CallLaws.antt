@@ -151,6 +151,9 @@ at_last-common s t [] = refl
 at_last-common s t (x ∷ []) = holds-common s t x
 at_last-common s t (x ∷ y ∷ ys) = at_last-common s t (y ∷ ys)
 
+starts_with_two : (s t : LocSet) (x : ℕ) (xs : List ℕ) → divides (one_of s) (divides (one_of t) anything) (x ∷ xs) ≡ (holds s x && at_first (holds t) xs)
+starts_with_two s t x xs = divides-one_of s (divides (one_of t) anything) x xs ∙ ap (λ b. holds s x && b) (starts t xs)
+
 either_place : (a b c : Bool) → ((a && b) || ((b && c) || false)) ≡ (b && (a || c))
 either_place true true c = refl
 either_place true false c = refl
@@ -163,6 +166,13 @@ leaves s t xs =
     ap (λ b. b || (divides anything (divides (one_of s) (one_of t)) xs || false)) (ends (common s t) xs ∙ at_last-common s t xs)
     ∙ ap (λ b. (at_last (holds s) xs && at_last (holds t) xs) || (b || false)) (ends_with_two s t xs)
     ∙ either_place (at_last (holds s) xs) (at_last (holds t) xs) (at_last (holds s) (front xs))
+
+comes_in : (s t : LocSet) (x : ℕ) (xs : List ℕ) →
+    (divides (one_of (common s t)) anything (x ∷ xs) || (divides (one_of t) (divides (one_of s) anything) (x ∷ xs) || false)) ≡ (holds t x && (holds s x || at_first (holds s) xs))
+comes_in s t x xs =
+    ap (λ b. b || (divides (one_of t) (divides (one_of s) anything) (x ∷ xs) || false)) (starts (common s t) (x ∷ xs) ∙ holds-common s t x)
+    ∙ ap (λ b. (holds s x && holds t x) || (b || false)) (starts_with_two t s x xs)
+    ∙ either_place (holds s x) (holds t x) (at_first (holds s) xs)
 
 -- the expression of a call of one set holds a list of at least two locations of the net where the list meets the call
 member-forward_set : (net : PlainNet) → IsNet net → (c : SetCall) (s : LocSet) (x y : ℕ) (ys : List ℕ) → list_all (is_location net) (x ∷ y ∷ ys) ≡ true →

@@ -1,10 +1,11 @@
 -- The derivative holds the lists that, with the location in front, are in the expression.
 use Rattle.std.proofs.Common.{◌≡◌, ℕ, List, [], ◌∷◌, Bool, true, false, not, cond, ◌&&◌, ◌||◌, refl, sym, ap, ◌∙◌}
+use Rattle.std.proofs.Math.Bool.{or-false, or_comm}
 use Rattle.path_exprs.specs.Expression.{Expression, never, empty, set, seq, either, both, complement, star, Expressions, none, more}
 use Rattle.path_exprs.specs.Language.{nothing, repeats}
 use Rattle.net_base.specs.Sets.{holds}
 use Rattle.path_exprs.specs.Membership.{member, some_member, each_member}
-use Rattle.path_exprs.specs.Normal.{seq_of}
+use Rattle.path_exprs.specs.Normal.{seq_of, either_of}
 use Rattle.path_exprs.specs.Derivative.{derivative, derivative_each}
 use Rattle.path_law.proofs.Languages.{divides_same, goes_on-divides}
 use Rattle.path_law.proofs.NormalForms.{in_some, in_each, member-seq_of, member-either_of, member-both_of, member-complement_of}
@@ -12,6 +13,12 @@ use Rattle.path_law.proofs.NormalForms.{in_some, in_each, member-seq_of, member-
 one_of-at : (b : Bool) (xs : List ℕ) → member (cond b empty never) xs ≡ (b && nothing xs)
 one_of-at true xs = refl
 one_of-at false xs = refl
+
+seq-at : (t : Bool) (front back : Expression) (xs : List ℕ) →
+    member (cond t (either_of (front ∷ back ∷ [])) front) xs ≡ ((t && member back xs) || member front xs)
+seq-at true front back xs =
+    member-either_of (front ∷ back ∷ []) xs ∙ ap (λ b. member front xs || b) (or-false (member back xs)) ∙ or_comm (member front xs) (member back xs)
+seq-at false front back xs = refl
 
 mutual
   pub member-derivative : (e : Expression) (x : ℕ) (xs : List ℕ) → member (derivative x e) xs ≡ member e (x ∷ xs)

@@ -1,5 +1,5 @@
 -- Each normal form holds the lists that the plain form holds.
-use Rattle.std.proofs.Common.{◌≡◌, ℕ, List, [], ◌∷◌, ◌++◌, Bool, true, false, not, ◌&&◌, ◌||◌, refl, sym, ap, ◌∙◌, ⊎_elim}
+use Rattle.std.proofs.Common.{◌≡◌, ℕ, List, [], ◌∷◌, ◌++◌, Bool, true, false, not, cond, ◌&&◌, ◌||◌, refl, sym, ap, ◌∙◌, ⊎_elim}
 use Rattle.std.specs.declared.cmp.Ordering.{Ordering}
 use Rattle.std.specs.declared.cmp.Ordering.TheVariants.{Less, Equal, Greater}
 use Rattle.std.specs.Ordering.{match_ordering}
@@ -11,7 +11,7 @@ use Rattle.path_exprs.specs.Expression.{Expression, never, empty, set, seq, eith
 use Rattle.path_exprs.specs.Order.{compare}
 use Rattle.path_exprs.specs.Language.{Language, divides}
 use Rattle.path_exprs.specs.Membership.{member, some_member, each_member}
-use Rattle.path_exprs.specs.Normal.{is_all, is_never, after, before, seq_of, insert, insert_each, sorted, either_parts, either_of, both_parts, both_of, complement_of}
+use Rattle.path_exprs.specs.Normal.{all, is_all, is_never, after, before, seq_of, insert, insert_each, sorted, either_parts, either_from, either_of, both_parts, both_from, both_of, complement_of}
 use Rattle.path_law.proofs.Languages.{Same, divides_same, divides_assoc, divides-none_left, divides-nothing_left, divides-none_right, divides-nothing_right}
 use Rattle.path_exprs.specs.Ordered.{compare-equal}
 use Rattle.path_exprs.proofs.NeverMembers.{member-is_never}
@@ -119,6 +119,11 @@ in_some-sorted es xs =
     ∙ held-sorted (λ a b. a || b) false (λ a. refl) or-false or_assoc or_left_comm or_self_left either_parts (λ e xs. sym (in_some-held (either_parts e) xs) ∙ in_some-parts e xs) es xs
     ∙ sym (in_some-held es xs)
 
+member-either_from : (es : List Expression) (xs : List ℕ) → member (either_from es) xs ≡ in_some es xs
+member-either_from [] xs = refl
+member-either_from (e ∷ []) xs = sym (or-false (member e xs))
+member-either_from (e ∷ f ∷ fs) xs = refl
+
 member-is_all : (e : Expression) (xs : List ℕ) → is_all e ≡ true → member e xs ≡ true
 member-is_all (complement never) xs h = refl
 member-is_all e xs h = cc
@@ -128,6 +133,10 @@ in_some-some_all [] xs h = cc
 in_some-some_all (e ∷ es) xs h =
     ⊎_elim (λ k. ap (λ b. b || in_some es xs) (member-is_all e xs k)) (λ k. ap (λ b. member e xs || b) (in_some-some_all es xs k) ∙ or-true (member e xs))
     (or_cases (is_all e) (list_any is_all es) h)
+
+all-or : (b : Bool) (fs : List Expression) (xs : List ℕ) → list_any is_all fs ≡ b → member (cond b all (either_from fs)) xs ≡ in_some fs xs
+all-or true fs xs h = sym (in_some-some_all fs xs h)
+all-or false fs xs h = member-either_from fs xs
 
 pub member-either_of : (es : List Expression) (xs : List ℕ) → member (either_of es) xs ≡ in_some es xs
 member-either_of es xs =
@@ -150,11 +159,20 @@ in_each-sorted es xs =
     ∙ held-sorted (λ a b. a && b) true (λ a. refl) and-true and_assoc and_left_comm and_self_left both_parts (λ e xs. sym (in_each-held (both_parts e) xs) ∙ in_each-parts e xs) es xs
     ∙ sym (in_each-held es xs)
 
+member-both_from : (es : List Expression) (xs : List ℕ) → member (both_from es) xs ≡ in_each es xs
+member-both_from [] xs = refl
+member-both_from (e ∷ []) xs = sym (and-true (member e xs))
+member-both_from (e ∷ f ∷ fs) xs = refl
+
 in_each-some_never : (es : List Expression) (xs : List ℕ) → list_any is_never es ≡ true → in_each es xs ≡ false
 in_each-some_never [] xs h = cc
 in_each-some_never (e ∷ es) xs h =
     ⊎_elim (λ k. ap (λ b. b && in_each es xs) (member-is_never e xs k)) (λ k. ap (λ b. member e xs && b) (in_each-some_never es xs k) ∙ and-false (member e xs))
     (or_cases (is_never e) (list_any is_never es) h)
+
+never-or : (b : Bool) (fs : List Expression) (xs : List ℕ) → list_any is_never fs ≡ b → member (cond b never (both_from fs)) xs ≡ in_each fs xs
+never-or true fs xs h = sym (in_each-some_never fs xs h)
+never-or false fs xs h = member-both_from fs xs
 
 pub member-both_of : (es : List Expression) (xs : List ℕ) → member (both_of es) xs ≡ in_each es xs
 member-both_of es xs =

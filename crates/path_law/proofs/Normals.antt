@@ -1,15 +1,17 @@
 -- The normal form holds the lists of locations of the net that the expression holds.
 use Rattle.std.proofs.Common.{◌≡◌, ◌==◌, ℕ, List, [], ◌∷◌, Bool, true, false, not, cond, ◌&&◌, ◌||◌, refl, sym, ap, ◌∙◌}
 use Rattle.std.proofs.lemmas.Bool.{and_parts}
+use Rattle.std.proofs.lemmas.Slice.Eq.{bytes_eq-Decides}
 use Rattle.std.specs.List.{list_all}
 use Rattle.path_exprs.specs.Expression.{Expression, never, empty, set, seq, either, both, complement, star, Expressions, none, more}
 use Rattle.path_exprs.specs.Language.{Language, nothing, one_of, divides, goes_on, repeats}
 use Rattle.net_base.specs.declared.loc.LocSet.{LocSet}
-use Rattle.net_base.specs.Sets.{holds}
+use Rattle.net_base.specs.Sets.{holds, same_set}
 use Rattle.net_base.proofs.SetLaws.{holds-zeros}
 use Rattle.path_exprs.specs.Membership.{member, some_member, each_member}
-use Rattle.path_exprs.specs.Normal.{normal_set, normal, normal_each}
+use Rattle.path_exprs.specs.Normal.{all, normal_set, star_of, normal, normal_each}
 use Rattle.path_law.proofs.Languages.{Same}
+use Rattle.path_law.proofs.Repeats.{repeats-nothing, repeats-none, repeats-everything, repeats-one_of, repeats-repeats}
 use Rattle.path_law.proofs.NormalForms.{in_some, in_each, member-seq_of, member-either_of, member-both_of, member-complement_of}
 
 -- a set without a location
@@ -26,6 +28,21 @@ pub member-normal_set : (s : LocSet) → Same (member (normal_set s)) (one_of s)
 member-normal_set s xs = normal_set-at (list_all (λ w. w == 0) s.words) s xs refl
 
 -- repetition
+
+star_of-set : (full s : LocSet) (xs : List ℕ) → list_all (holds full) xs ≡ true → (b : Bool) → same_set s full ≡ b →
+    member (cond b all (star (set s))) xs ≡ repeats (one_of s) xs
+star_of-set full s xs h true e =
+    let same : s ≡ full = ap (λ ws. record { words = ws }) ((bytes_eq-Decides s.words full.words).0 e) in
+    sym (ap (λ v. repeats (one_of v) xs) same ∙ repeats-one_of full xs h)
+star_of-set full s xs h false e = refl
+
+pub member-star_of : (full : LocSet) (a : Expression) (xs : List ℕ) → list_all (holds full) xs ≡ true → member (star_of full a) xs ≡ repeats (member a) xs
+member-star_of full never xs h = sym (repeats-none xs)
+member-star_of full empty xs h = sym (repeats-nothing xs)
+member-star_of full (star a) xs h = sym (repeats-repeats (member a) xs)
+member-star_of full (set s) xs h = star_of-set full s xs h (same_set s full) refl
+member-star_of full (complement never) xs h = sym (repeats-everything xs)
+member-star_of full a xs h = refl
 
 -- languages that hold the same lists of locations of the net
 

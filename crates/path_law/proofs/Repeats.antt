@@ -12,11 +12,24 @@ pub goes_on-none : (p : Language) (xs : List ℕ) → goes_on p (λ ys. false) x
 goes_on-none p [] = refl
 goes_on-none p (x ∷ xs) = goes_on-none p xs
 
+-- a language without a first location repeats as the empty list alone
+pub repeats-nothing : (xs : List ℕ) → repeats nothing xs ≡ nothing xs
+repeats-nothing [] = refl
+repeats-nothing (x ∷ xs) = goes_on-none nothing xs
+
+pub repeats-none : (xs : List ℕ) → repeats (λ ys. false) xs ≡ nothing xs
+repeats-none [] = refl
+repeats-none (x ∷ xs) = goes_on-none (λ ys. false) xs
+
 pub goes_on-everything : (p q : Language) (xs : List ℕ) → ((ys : List ℕ) → p ys ≡ true) → q [] ≡ true → goes_on p q xs ≡ true
 goes_on-everything p q [] h e = e
 goes_on-everything p q (x ∷ xs) h e =
     ap (λ b. (b && goes_on p (λ ys. p (x ∷ ys)) xs) || goes_on p (λ ys. q (x ∷ ys)) xs) e
     ∙ ap (λ b. b || goes_on p (λ ys. q (x ∷ ys)) xs) (goes_on-everything p (λ ys. p (x ∷ ys)) xs h (h (x ∷ [])))
+
+pub repeats-everything : (xs : List ℕ) → repeats (λ ys. true) xs ≡ true
+repeats-everything [] = refl
+repeats-everything (x ∷ xs) = goes_on-everything (λ ys. true) (λ ys. true) xs (λ ys. refl) refl
 
 goes_on-one_of : (full : LocSet) (q : Language) (xs : List ℕ) → list_all (holds full) xs ≡ true → q [] ≡ true → goes_on (one_of full) q xs ≡ true
 goes_on-one_of full q [] h e = e
@@ -25,6 +38,13 @@ goes_on-one_of full q (x ∷ xs) h e =
     ap (λ b. (b && goes_on (one_of full) (λ ys. holds full x && nothing ys) xs) || goes_on (one_of full) (λ ys. q (x ∷ ys)) xs) e
     ∙ ap (λ b. b || goes_on (one_of full) (λ ys. q (x ∷ ys)) xs)
     (goes_on-one_of full (λ ys. holds full x && nothing ys) xs parts.1 (ap (λ b. b && true) parts.0))
+
+-- repeating all locations gives each list of them
+pub repeats-one_of : (full : LocSet) (xs : List ℕ) → list_all (holds full) xs ≡ true → repeats (one_of full) xs ≡ true
+repeats-one_of full [] h = refl
+repeats-one_of full (x ∷ xs) h =
+    let parts = and_parts (holds full x) (list_all (holds full) xs) h in
+    goes_on-one_of full (λ ys. holds full x && nothing ys) xs parts.1 (ap (λ b. b && true) parts.0)
 
 pub goes_on-or : (p u v : Language) (xs : List ℕ) → goes_on p (λ ys. u ys || v ys) xs ≡ (goes_on p u xs || goes_on p v xs)
 goes_on-or p u v [] = refl
@@ -54,3 +74,7 @@ goes_on-goes_on p q (x ∷ xs) =
     ∙ ap (λ c. (q [] && c) || goes_on (repeats p) (goes_on p qx) xs) (goes_on-goes_on p px xs)
     ∙ ap (λ c. (q [] && goes_on p px xs) || c) (goes_on-goes_on p qx xs))
     ∙ or_self_left (q [] && goes_on p px xs) (goes_on p qx xs)
+
+pub repeats-repeats : (p : Language) (xs : List ℕ) → repeats (repeats p) xs ≡ repeats p xs
+repeats-repeats p [] = refl
+repeats-repeats p (x ∷ xs) = goes_on-goes_on p (λ ys. p (x ∷ ys)) xs

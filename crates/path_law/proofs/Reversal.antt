@@ -8,7 +8,7 @@ use Rattle.net_base.specs.declared.loc.LocSet.{LocSet}
 use Rattle.net_base.specs.Sets.{holds}
 use Rattle.path_exprs.specs.Membership.{member, some_member, each_member}
 use Rattle.path_exprs.specs.Normal.{reversed, reversed_each}
-use Rattle.path_law.proofs.Languages.{divides_same, divides-or, divides-and, goes_on-divides}
+use Rattle.path_law.proofs.Languages.{Same, divides_same, divides-or, divides-and, goes_on-divides}
 
 -- `reverse` by recursion
 abbrev backwards : List ℕ → List ℕ
@@ -67,6 +67,10 @@ goes_on-snoc p q (y ∷ ys) x =
     ∙ ap (λ b. qy (ys ++ x ∷ []) || ((q [] && py (ys ++ x ∷ [])) || b))
     (sym (divides-or (λ zs. q [] && goes_on p py zs) (goes_on p qy) ends ys ∙ ap (λ b. b || divides (goes_on p qy) ends ys) (divides-and (q []) (goes_on p py) ends ys)))
 
+repeats-snoc : (p : Language) (xs : List ℕ) (x : ℕ) → repeats p (xs ++ x ∷ []) ≡ divides (repeats p) (λ ys. p (ys ++ x ∷ [])) xs
+repeats-snoc p [] x = refl
+repeats-snoc p (y ∷ ys) x = goes_on-snoc p (λ zs. p (y ∷ zs)) ys x
+
 divides_up_to : (p q r : Language) (xs : List ℕ) → ((ys : List ℕ) → length ys ≤ length xs → q ys ≡ r ys) → divides p q xs ≡ divides p r xs
 divides_up_to p q r [] h = ap (λ b. p [] && b) (h [] (omega arith))
 divides_up_to p q r (x ∷ xs) h =
@@ -85,6 +89,9 @@ repeats-backwards-up_to (suc n) p (x ∷ xs) k =
 
 pub repeats-backwards : (p : Language) (xs : List ℕ) → repeats p (backwards xs) ≡ repeats (λ ys. p (backwards ys)) xs
 repeats-backwards p xs = repeats-backwards-up_to (length xs) p xs (omega arith)
+
+repeats_same : (p q : Language) → Same p q → Same (repeats p) (repeats q)
+repeats_same p q h xs = let e : p ≡ q = λ i. λ ys. h ys i in ap (λ r. repeats r xs) e
 
 nothing-snoc : (xs : List ℕ) (x : ℕ) → nothing (xs ++ x ∷ []) ≡ false
 nothing-snoc [] x = refl

@@ -1,5 +1,5 @@
 -- The expressions of terms as further terms come.
-use Rattle.std.proofs.Common.{◌≡◌, ℕ, zero, suc, ◌<◌, ◌≤◌, ◌+◌, true, false, List, [], ◌∷◌, ◌++◌, ◌⊎◌, inl, inr, ⊎_elim, map, length, get_or, Some, None, refl}
+use Rattle.std.proofs.Common.{◌≡◌, ℕ, zero, suc, ◌<◌, ◌≤◌, ◌+◌, Bool, true, false, cond, List, [], ◌∷◌, ◌++◌, ◌⊎◌, inl, inr, ⊎_elim, map, length, get_or, Some, None, refl}
 use Rattle.std.proofs.Common.{sym, ap, subst, ◌∙◌, arith, append_assoc}
 use Rattle.std.specs.Prelude.{◌==◌, nat_lt, slice_get, Result, Ok, Err}
 use Rattle.std.specs.List.{list_all, list_any}
@@ -245,6 +245,14 @@ new-expression ts t sound apart ht none i lt q =
 
 pub expressions-push : (ts : List Term) (t : Term) → expressions (ts ++ t ∷ []) ≡ expressions ts ++ node (expressions ts) t ∷ []
 expressions-push ts t = grow-append [] ts (t ∷ [])
+
+pub insert-cases : (ts new : List Term) (t : Term) (P : List Term → Type 0) → new ≡ insert_key same ts t → (list_any (same t) ts ≡ true → P ts)
+    → (list_any (same t) ts ≡ false → P (ts ++ t ∷ [])) → P new
+insert-cases ts new t P e there none = at_bool (list_any (same t) ts) refl e
+  where
+    at_bool : (b : Bool) → list_any (same t) ts ≡ b → new ≡ cond b ts (ts ++ t ∷ []) → P new
+    at_bool true h e = subst P (sym e) (there h)
+    at_bool false h e = subst P (sym e) (none h)
 
 pub insert-sound : (ts new : List Term) (t : Term) → each_sound 0 ts ≡ true → is_sound (length (expressions ts)) t ≡ true → new ≡ insert_key same ts t → each_sound 0 new ≡ true
 insert-sound ts new t h g e =

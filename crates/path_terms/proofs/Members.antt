@@ -165,6 +165,12 @@ In-all : (p : Expression → Bool) (es : List Expression) → ((g : Expression) 
 In-all p [] h = refl
 In-all p (e ∷ es) h = and_from (p e) (list_all p es) (h e (inl refl)) (In-all p es (λ g i. h g (inr i)))
 
+pub all-sorted : (p : Expression → Bool) (es : List Expression) → list_all p es ≡ list_all p (sorted es)
+all-sorted p es =
+    same_tests (list_all p es) (list_all p (sorted es))
+    (λ h. In-all p (sorted es) (λ g i. all-In p g es h (sorted-In g es i)))
+    (λ h. In-all p es (λ g i. all-In p g (sorted es) h (In-sorted g es i)))
+
 pub holds-either : (vs : List Expression) (ms : List ℕ) (e : Expression) → e ≡ either (expressions_of (sorted (map (at vs) ms))) → list_any (λ e. member e []) (map (at vs) ms) ≡ member e []
 holds-either vs ms e q =
     any-sorted (λ e. member e []) (map (at vs) ms) ∙ some_member-any (sorted (map (at vs) ms)) ∙ sym (ap (λ e. member e []) q)

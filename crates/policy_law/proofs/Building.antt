@@ -43,6 +43,8 @@ list_set bytes known sense has ls none = silent Unknown (flat_map (unknown sense
 
 -- ---- origins
 
+origin_is : (bytes : List ℕ) (known : Names) (sense : Sense) → HasSense bytes known sense → (prefix : Lexeme) (names : List Lexeme) → no_prefix bytes prefix ≡ [] → flat_map (unknown sense) names ≡ []
+    → origin_of bytes known prefix names ≡ Ok (record { prefix = prefix_of bytes prefix; at = set_of_names sense names })
 unfolding origin_of
 origin_is bytes known sense has prefix names fine none =
     let p : Result PlainPrefix PolicyFault = prefix_at bytes prefix in

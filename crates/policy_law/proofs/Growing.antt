@@ -25,6 +25,9 @@ set_more : (sense other : Sense) → KnowsMore sense other → (a : Arg) → unk
 set_more sense other more arg.Any none = refl
 set_more sense other more (arg.Names ls) none = all_more (unknown sense) (unknown other) more ls none
 
+sides_more : (a b c d : List Place) → (a ≡ [] → c ≡ []) → (b ≡ [] → d ≡ []) → a ++ b ≡ [] → c ++ d ≡ []
+sides_more a b c d p q none = both_nil c d (p (nil_front a b none)) (q (nil_back a b none))
+
 expression_more : (sense other : Sense) → KnowsMore sense other → (e : Expression) → unknown_in sense e ≡ [] → unknown_in other e ≡ []
 expression_more sense other more (call c) none = all_more (unknown_in_set sense) (unknown_in_set other) (set_more sense other more) c.args none
 expression_more sense other more (above a p b) none =

@@ -20,6 +20,7 @@ use Rattle.policy_law.specs.Trees.{Expression, call, above, either, both, negate
 use Rattle.policy_law.specs.Senses.{Sense, located, set_of_names, unless_some, unknown, unknown_in_set, unknown_in}
 use Rattle.policy_law.specs.Values.{set_of, ranking}
 use Rattle.policy_law.proofs.Binds.{told_join, told_append, told_end, told_gives, each_append, each_told}
+use Rattle.policy_law.proofs.RankMarks.{two_sides}
 
 -- the names that are known have this sense
 abbrev pub HasSense : List ℕ → Names → Sense → Type 0
@@ -126,6 +127,16 @@ call_stack bytes net known sense has c rs rest =
     ap (λ (r : Result (List LocSet) PolicyFault). (r >>= λ sets. Ok (call_of c.word sets ∷ rs)) >>= λ next. all_behind bytes net known next rest) (arg_sets bytes net known sense has [] c.args)
     ∙ ap (λ (r : Result (List Ranking) PolicyFault). r >>= λ next. all_behind bytes net known next rest) (told_gives Unknown xs sets (λ sets. Ok (call_of c.word sets ∷ rs)))
     ∙ told_gives Unknown xs (call_of c.word sets ∷ rs) (λ next. all_behind bytes net known next rest)
+
+-- two sides, and what the step makes of them
+two_stacked : (bytes : List ℕ) (net : PlainNet) (known : Names) (sense : Sense) (a b : Expression) (s : Step) (rs : List Ranking) (rest : List Step)
+    → OnStack bytes net known sense a rs (postfix b ++ s ∷ rest) → OnStack bytes net known sense b (ranking net sense a ∷ rs) (s ∷ rest)
+    → all_behind bytes net known rs ((postfix a ++ postfix b ++ s ∷ []) ++ rest)
+    ≡ (told Unknown (unknown_in sense a ++ unknown_in sense b) >>= λ _. all_behind bytes net known (ranking net sense b ∷ ranking net sense a ∷ rs) (s ∷ rest))
+two_stacked bytes net known sense a b s rs rest p q =
+    ap (all_behind bytes net known rs) (two_sides (postfix a) (postfix b) s rest) ∙ p
+    ∙ ap (λ (r : Result (List Ranking) PolicyFault). told Unknown (unknown_in sense a) >>= λ _. r) q
+    ∙ told_join Unknown (unknown_in sense a) (unknown_in sense b) (all_behind bytes net known (ranking net sense b ∷ ranking net sense a ∷ rs) (s ∷ rest))
 
 on_stack : (bytes : List ℕ) (net : PlainNet) (known : Names) (sense : Sense) → HasSense bytes known sense
     → (e : Expression) (rs : List Ranking) (rest : List Step) → OnStack bytes net known sense e rs rest

@@ -1,14 +1,17 @@
 -- Patterns that are read are patterns.
 use Rattle.std.proofs.Common.{◌≡◌, ℕ, List, [], ◌∷◌, ◌++◌, Ok, subst, arith}
-use Rattle.std.specs.Prelude.{◌&&◌}
+use Rattle.std.specs.Prelude.{◌&&◌, nat_le}
 use Rattle.std.specs.List.{AllByRecursion}
+use Rattle.std.proofs.lemmas.Bool.{and_parts}
 use Rattle.list_law.proofs.Each.{AllByRecursion-push}
+use borrow.Author.Tests.{leb-true}
 use Rattle.net_base.specs.Network.{PlainNet}
 use Rattle.net_base.specs.Prefixes.{PlainPrefix, PlainPattern, IsPrefix, IsPattern, only}
-use Rattle.net_base.specs.PrefixText.{prefix_spelled}
-use Rattle.net_base.specs.Steps.{◌>>=◌}
+use Rattle.net_base.specs.PrefixText.{prefix_spelled, length_number}
+use Rattle.net_base.specs.Steps.{◌>>=◌, or_fault, unless}
 use Rattle.net_base.proofs.PrefixLemmas.{prefix_spelled-IsPrefix}
-use Rattle.net_base.proofs.StepLemmas.{bind_ok}
+use Rattle.net_base.proofs.StepLemmas.{bind_ok, unless_ok}
+use Rattle.policy_tokens.specs.declared.fault.PolicyFault.TheVariants.{PrefixBad}
 use Rattle.policy_grammar.specs.declared.lexeme.Lexeme.{Lexeme}
 use Rattle.policy_grammar.specs.Raw.{RawPattern, RawStatement, Item}
 use Rattle.policy_grammar.specs.Raw.RawPattern.{All, Only, UpTo}
@@ -29,6 +32,17 @@ all_is = record { prefix = record { wide = omega arith; within = omega arith; cl
 
 only_is : (p : PlainPrefix) → IsPrefix p → IsPattern (only p)
 only_is p is = record { prefix = is; least = omega arith; most = is.within }
+
+upto_is : (bytes : List ℕ) (base : PlainPrefix) (l : Lexeme) (t : PlainPattern) → IsPrefix base → upto_at bytes base l ≡ Ok t → IsPattern t
+upto_is bytes base l t is e =
+    let a =
+    bind_ok (or_fault (PrefixBad l.place) (length_number (text bytes l)))
+    (λ n. unless (PrefixBad l.place) (nat_le base.len n && nat_le n 32) >>= λ _. Ok (record { base = base; upto = n })) t e in
+    let b = bind_ok (unless (PrefixBad l.place) (nat_le base.len a.0 && nat_le a.0 32)) (λ _. Ok (record { base = base; upto = a.0 })) t a.2 in
+    let h = and_parts (nat_le base.len a.0) (nat_le a.0 32) (unless_ok (PrefixBad l.place) _ b.0 b.1) in
+    let made : PlainPattern = record { base = base; upto = a.0 } in
+    let same : made ≡ t = cc in
+    subst IsPattern same (record { prefix = is; least = leb-true base.len a.0 h.0; most = leb-true a.0 32 h.1 })
 
 pattern_is : (bytes : List ℕ) (r : RawPattern) (t : PlainPattern) → pattern_at bytes r ≡ Ok t → IsPattern t
 pattern_is bytes All t e =

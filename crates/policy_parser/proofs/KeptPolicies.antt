@@ -53,6 +53,16 @@ module _ (bytes : List ℕ) (net : PlainNet) (items : List Item) (k : Names) (t 
   unfolding origin_of
   origin_read f ns v q s is prefix at = rw (← is.prefix, ← is.at, prefix, at) refl
 
+  -- an origin more
+  origin_kept_at : (f : Lexeme) (ns : List Lexeme) (v : OriginRead) (q : PlainPrefix) (s : LocSet) → v.prefix ≡ Ok q → v.at ≡ Ok s
+      → IsOrigin bytes net t.known f ns v → IsKept bytes net t.known items p
+      → IsKept bytes net t.known (items ++ Originate f ns ∷ []) (kept_item p (read.Origin v))
+  origin_kept_at f ns v q s prefix at is kept =
+      let here = origin_read f ns v q s is prefix at in record {
+        origins = rw (origins_push bytes t.known [] items (Originate f ns), kept.origins, here, prefix, at) refl;
+        statements = rw (statements_push bytes net t.known [] items (Originate f ns), kept.statements) refl;
+      }
+
   origin_kept : (f : Lexeme) (ns : List Lexeme) (v : OriginRead) (r : Result LocSet PolicyFault) → v.at ≡ r → IsOrigin bytes net t.known f ns v
       → IsKept bytes net t.known items p → IsWhole (with_origins t v r)
       → IsKept bytes net (with_origins t v r).known (items ++ Originate f ns ∷ []) (kept_item p (read.Origin v))

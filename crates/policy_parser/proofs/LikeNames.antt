@@ -80,6 +80,14 @@ pub peer_err : (net : PlainNet) (r : Result LocSet PolicyFault) (e : PolicyFault
 peer_err net (Ok s) e h = absurd cc
 peer_err net (Err d) e h = ap (λ (f : PolicyFault). Err f) (err_same d e h)
 
+told_behind : (net : PlainNet) (r q : Result LocSet PolicyFault) (f g : LocSet → Result LocSet PolicyFault) → peer_told net r ≡ peer_told net q
+    → ((s t : LocSet) → has_peer net s ≡ has_peer net t → peer_told net (f s) ≡ peer_told net (g t))
+    → peer_told net (r >>= f) ≡ peer_told net (q >>= g)
+told_behind net (Ok s) (Ok t) f g same next = next s t (ok_same (has_peer net s) (has_peer net t) same)
+told_behind net (Ok s) (Err e) f g same next = absurd cc
+told_behind net (Err e) (Ok t) f g same next = absurd cc
+told_behind net (Err d) (Err e) f g same next = ap (λ (x : PolicyFault). Err x) (err_same d e same)
+
 -- each of them passes both
 each_same_check : {A : Type 0} (f g : A → Result ⊤ PolicyFault) → ((x : A) → f x ≡ g x) → (xs : List A) → each f xs ≡ each g xs
 each_same_check f g same [] = refl

@@ -9,7 +9,7 @@ use Rattle.policy_tokens.specs.declared.fault.PolicyFault.{PolicyFault}
 use Rattle.policy_grammar.specs.declared.lexeme.Lexeme.{Lexeme}
 use Rattle.policy_grammar.specs.declared.symbol.Symbol.TheVariants.{Name, Figure, Equals, At, Arrow, Semicolon}
 use Rattle.policy_grammar.specs.Raw.{Arg, RawPattern, RawStatement, Step}
-use Rattle.policy_grammar.specs.Raw.Item.{Define, State}
+use Rattle.policy_grammar.specs.Raw.Item.{Define, Originate, State}
 use Rattle.policy_grammar.specs.Reading.{first_of, after}
 use Rattle.policy_grammar.specs.Names.{names_at, braced_at}
 use Rattle.policy_grammar.specs.Ranked.{ranked_with, inner_at}
@@ -34,6 +34,9 @@ define_told : (ls : List Lexeme) (name : Lexeme) (a b c d members : List Lexeme)
 unfolding define_at
 define_told ls name a b c d members named equals braced ends = rw (named, equals, braced, ends) refl
 
+-- the parts of a prefix with its origins
+originate_told : (ls : List Lexeme) (figure : Lexeme) (a b c d names : List Lexeme)
+    → first_of Figure ls ≡ Ok (figure, a) → after At a ≡ Ok b → names_at b ≡ Ok (names, c) → after Semicolon c ≡ Ok d → originate_at ls ≡ Ok (Originate figure names, d)
 unfolding originate_at
 originate_told ls figure a b c d names spelled at named ends = rw (spelled, at, named, ends) refl
 

@@ -16,9 +16,9 @@ use Rattle.policy_rules.specs.KnownNames.{Names}
 use Rattle.policy_base.specs.declared.policy.Origin.{Origin}
 use Rattle.policy_base.specs.Policies.{PlainPolicy}
 use Rattle.policy_values.specs.Built.{origin_of, origins_of}
-use Rattle.policy_parser.specs.Spelled.{items_spelled, names_spelled, rules_kept, spelled}
+use Rattle.policy_parser.specs.Spelled.{items_spelled, names_spelled, rules_kept, policy_built, spelled}
 use Rattle.net_base.proofs.StepLemmas.{bind_ok}
-use Rattle.policy_parser.proofs.BuiltParts.{origin_parts}
+use Rattle.policy_parser.proofs.BuiltParts.{origin_parts, origins_parts, policy_parts}
 
 abbrev pub HavePrefixes : List Origin → Type 0
 HavePrefixes os = AllByRecursion (λ (o : Origin). IsPrefix o.prefix) os
@@ -37,6 +37,11 @@ origins_have bytes known so_far (Originate p ns ∷ items) os e before =
     let b = bind_ok (origin_of bytes known p ns) (λ o. origins_of bytes known (so_far ++ o ∷ []) items) os e in
     let read = or_bad_ok p (prefix_spelled (text bytes p)) b.0.prefix (origin_parts bytes known p ns b.0 b.1).0 in
     origins_have bytes known (so_far ++ b.0 ∷ []) items os b.2 (AllByRecursion-push (λ (o : Origin). IsPrefix o.prefix) so_far b.0 before (prefix_spelled-IsPrefix (text bytes p) b.0.prefix read))
+
+built_have : (bytes : List ℕ) (net : PlainNet) (known : Names) (items : List Item) (policy : PlainPolicy) → policy_built bytes net known items ≡ Ok policy → HavePrefixes policy.origins
+built_have bytes net known items policy h =
+    let spelt = (policy_parts bytes net known items policy h).0 in
+    origins_have bytes known [] items policy.origins (origins_parts bytes known items policy.origins spelt).1 tt
 
 -- each of them is a prefix
 pub spelled-HavePrefixes : (net : PlainNet) (bytes : List ℕ) (policy : PlainPolicy) → spelled net bytes ≡ Ok policy → HavePrefixes policy.origins

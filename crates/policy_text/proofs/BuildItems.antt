@@ -21,7 +21,7 @@ use Rattle.policy_base.specs.declared.policy.FromSet.{FromSet}
 use Rattle.policy_base.specs.declared.policy.FromSet.TheVariants as from_set
 use Rattle.policy_base.specs.declared.policy.Origin.{Origin}
 use Rattle.policy_base.specs.Policies.{PlainStatement}
-use Rattle.policy_values.specs.Built.{patterns_of, statement_of, origin_of}
+use Rattle.policy_values.specs.Built.{patterns_of, from_of, statement_of, origin_of}
 use Rattle.policy_text.specs.PolicyText.{names_in, is_everything}
 use Rattle.policy_text.specs.Printable.{HoldsOnly, call_count}
 use Rattle.policy_text.proofs.Readings.{Pairs}
@@ -89,6 +89,10 @@ module _ (bytes : List ℕ) (net : PlainNet) (apart : IsDistinct bytes_eq (site_
     pub prefix : IsPrefix o.prefix
     pub set : IsSet bytes net apart small o.at
     pub routers : HoldsOnly (is_router net) o.at
+
+  from_there : (a : Arg) (f : FromSet) → IsFineFrom f → IsRawFrom bytes net a f → from_of bytes names a ≡ Ok f
+  from_there a from_set.Any fine is = rw is refl
+  from_there a (from_set.Named s) fine is = rw (is.1, names_stand bytes net apart small s fine is.0 is.2) refl
 
   from_known : (a : Arg) (f : FromSet) → IsFineFrom f → IsRawFrom bytes net a f → arg_known bytes names a ≡ Ok tt
   from_known a from_set.Any fine is = rw is refl

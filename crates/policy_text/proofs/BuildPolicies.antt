@@ -164,6 +164,10 @@ module _ (bytes : List ℕ) (net : PlainNet) (apart : IsDistinct bytes_eq (site_
             (IsStatementItem bytes net) (amount k) g statement are.1 policy.statements are.4,
       ))
 
+  all_within : (items : List Item) → sum_by (amount kind.Definitions) items ≤ 256 → sum_by (amount kind.Statements) items ≤ 256
+      → sum_by (amount kind.Patterns) items ≤ 16384 → sum_by (amount kind.Prefixes) items ≤ 4096 → items_within items ≡ Ok tt
+  all_within items a b c d = rw (fits kind.Definitions 256 _ a, fits kind.Statements 256 _ b, fits kind.Patterns 16384 _ c) (fits kind.Prefixes 4096 _ d)
+
   module _ (policy : PlainPolicy) (limits : IsPolicy policy) (os : AllByRecursion FineOrigin policy.origins)
       (ss : AllByRecursion FineStatement policy.statements) (items : List Item) (are : AreItems bytes net items policy) where
     counts_fit : items_within items ≡ Ok tt

@@ -123,6 +123,10 @@ module _ (bytes : List ℕ) (net : PlainNet) (apart : IsDistinct bytes_eq (site_
   arg_is_known arg.Any s fine all = refl
   arg_is_known (arg.Names ls) s fine are = names_known s fine ls are
 
+  sets_more : (so_far sets : List LocSet) (s : LocSet) (a : Arg) (args : List Arg) → set_of_arg bytes net known a ≡ Ok s
+      → sets_of bytes net known (so_far ++ s ∷ []) args ≡ Ok sets → sets_of bytes net known so_far (a ∷ args) ≡ Ok sets
+  sets_more so_far sets s a args first more = rw (first, more) refl
+
   pub sets_stand : (args : List Arg) (sets so_far : List LocSet) → AllByRecursion IsSet sets → Pairs (IsSetArg bytes net) args sets → sets_of bytes net known so_far args ≡ Ok (so_far ++ sets)
   sets_stand [] [] so_far fine are = ap Ok (sym (append-nil so_far))
   sets_stand [] (s ∷ sets) so_far fine are = absurd are

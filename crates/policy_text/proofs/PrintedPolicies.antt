@@ -12,11 +12,11 @@ use Rattle.policy_grammar.specs.Raw.{Item}
 use Rattle.policy_grammar.specs.Lexemes.{lexemes_of}
 use Rattle.policy_grammar.specs.Deep.{first_deep}
 use Rattle.policy_grammar.specs.Items.{items_of}
-use Rattle.policy_rules.specs.KnownNames.{net_names}
+use Rattle.policy_rules.specs.KnownNames.{Names, net_names}
 use Rattle.policy_rules.specs.Checks.{all_learnt}
 use Rattle.policy_base.specs.declared.policy.Origin.{Origin}
 use Rattle.policy_base.specs.Policies.{PlainStatement, PlainPolicy}
-use Rattle.policy_parser.specs.Spelled.{items_spelled, names_spelled, spelled}
+use Rattle.policy_parser.specs.Spelled.{items_spelled, names_spelled, rules_kept, policy_built, spelled}
 use Rattle.policy_text.specs.PolicyText.{policy_text}
 use Rattle.policy_text.specs.Printable.{IsPrintable, IsPrintableStatement, IsPrintableOrigin}
 use Rattle.policy_text.specs.Values.{HasNames, IsOriginValue, IsStatementValue, IsPolicyValue}
@@ -42,6 +42,9 @@ names_there : (bytes : List ℕ) (net : PlainNet) (items : List Item) → net_na
 unfolding names_spelled
 names_there bytes net items names learnt = rw (names, learnt) refl
 
+policy_there : (bytes : List ℕ) (net : PlainNet) (items : List Item) (known : Names) (policy : PlainPolicy) → items_spelled bytes ≡ Ok items
+    → names_spelled bytes net items ≡ Ok known → rules_kept bytes net known items ≡ Ok tt
+    → policy_built bytes net known items ≡ Ok policy → spelled net bytes ≡ Ok policy
 unfolding spelled
 policy_there bytes net items known policy read names rules built = rw (read, names, rules) built
 

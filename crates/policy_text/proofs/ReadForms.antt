@@ -148,6 +148,14 @@ call_form (IsCall.path w o x m y rest c) = record { count = omega arith; args = 
 
 -- ---- brackets
 
+at_most_one : (b : Bool) → one_if b ≤ 1
+at_most_one true = omega arith
+at_most_one false = omega arith
+
+-- a word with a bracket behind it
+one_open : (s : Symbol) → IsPlain s → (k : ℕ) (w o : Lexeme) (ls : List Lexeme) (b : Bool) → Is s w → Is symbol.RoundOpen o → Fits k (w ∷ o ∷ ls) → one_if b ≤ 64 - k
+one_open s plain k w o ls b i j fits = let room = opened k o ls j (passes s plain k w (o ∷ ls) i fits) in omega (arith, room.0, at_most_one b)
+
 call_brackets : {x : RawCall} {ts : List Lexeme} → IsCall x ts → (k : ℕ) (ms : List Lexeme) → Fits k (ts ++ ms) → one_if (has_brackets x.word) ≤ 64 - k
 call_brackets (IsCall.alone StandsAlone.any i) k ms fits = omega arith
 call_brackets (IsCall.alone StandsAlone.drop i) k ms fits = omega arith

@@ -1,6 +1,6 @@
 -- One token of a text after another.
 use Rattle.std.proofs.Common.{◌≡◌, ℕ, zero, suc, ◌-◌, ◌+◌, ◌≤◌, ◌<◌, Bool, true, false, List, [], ◌∷◌, ◌++◌, length, take, drop, Result, Ok, Err, refl, sym, ap, ◌∙◌, subst}
-use Rattle.std.proofs.Common.{eqb-true, length-drop, drop-drop, slice_index_or, arith}
+use Rattle.std.proofs.Common.{eqb-true, length-drop, drop-drop, take-append-drop, slice_index_or, arith}
 use Rattle.std.proofs.lemmas.List.{append-nil, take_all}
 use Rattle.std.specs.Prelude.{◌==◌}
 use Rattle.net_base.specs.declared.place.Place.{Place}
@@ -9,6 +9,7 @@ use Rattle.policy_tokens.specs.declared.fault.PolicyFault.{PolicyFault}
 use Rattle.policy_tokens.specs.declared.fault.PolicyFault.TheVariants as fault
 use Rattle.policy_tokens.specs.declared.token.Token.{Token}
 use Rattle.policy_tokens.specs.declared.token.TokenKind.{TokenKind}
+use Rattle.policy_tokens.specs.declared.piece.Piece.{Piece}
 use Rattle.policy_tokens.specs.declared.piece.Piece.TheVariants as piece
 use Rattle.policy_tokens.specs.declared.next.Next.{Next}
 use Rattle.policy_tokens.specs.declared.next.Next.TheVariants as next
@@ -16,7 +17,7 @@ use Rattle.policy_tokens.specs.Places.{place_after, first_place, place_of}
 use Rattle.policy_tokens.specs.Tokens.{piece_at, piece_taken, token_in, tokens_from}
 use Rattle.policy_tokens.specs.Ahead.{Ahead, behind_piece, behind_token, with_piece, ahead, ahead_of, from_next, IsPlace, told}
 use Rattle.policy_tokens.proofs.Pieces.{piece_parts}
-use Rattle.policy_tokens.proofs.Places.{piece_placed}
+use Rattle.policy_tokens.proofs.Places.{piece_placed, place_after-append}
 
 -- ---- the number only counts down
 
@@ -24,6 +25,7 @@ with_same : (r : Result ℕ PolicyFault) (tokens : List Token) (place : Place) (
 with_same (Ok k) tokens place f g same = ap (λ (a : Ahead). let b : Ahead = (tokens ++ a.0, a.1) in b) (same k refl)
 with_same (Err e) tokens place f g same = refl
 
+pub ahead-any : (n m from : ℕ) (place : Place) (bytes : List ℕ) → length bytes ≤ n → length bytes ≤ m → ahead n from place bytes ≡ ahead m from place bytes
 unfolding ahead
 ahead-any zero zero from place bytes le le' = refl
 ahead-any zero (suc m) from place [] le le' = refl
@@ -38,6 +40,10 @@ ahead-any (suc n) (suc m) from place (b ∷ bs) le le' =
 
 -- ---- one piece of a text
 
+-- what is ahead of a piece
+pub ahead_step : (text : List ℕ) (from : ℕ) (place : Place) (b : ℕ) (bs : List ℕ) → drop from text ≡ b ∷ bs
+    → ahead_of text from place
+    ≡ with_piece (piece_taken place (piece_at (b ∷ bs))) (token_in from place (piece_at (b ∷ bs))) place (λ k. ahead_of text (from + k) (place_after place (take k (b ∷ bs))))
 unfolding ahead
 ahead_step text from place b bs e =
     ap (λ z. ahead (length z) from place z) e
@@ -127,6 +133,12 @@ told_more tokens (ts, next.Token t) = refl
 told_more tokens (ts, next.End p) = refl
 told_more tokens (ts, next.Stray p) = refl
 
+told_piece : (from : ℕ) (place : Place) (p : Piece) (f : ℕ → Result (List Token) PolicyFault) (g : ℕ → Ahead) → ((k : ℕ) → f k ≡ told (g k))
+    → (piece_taken place p >>= λ k. f k >>= λ ts. Ok (token_in from place p ++ ts)) ≡ told (with_piece (piece_taken place p) (token_in from place p) place g)
+told_piece from place (piece.Gap k) f g same = rw (same k) (told_more [] (g k))
+told_piece from place (piece.Token kind k) f g same = rw (same k) (told_more (token_in from place (piece.Token kind k)) (g k))
+told_piece from place piece.Stray f g same = refl
+
 pub tokens_told : (n from : ℕ) (place : Place) (bytes : List ℕ) → tokens_from n from place bytes ≡ told (ahead n from place bytes)
 unfolding tokens_from ahead
 tokens_told zero from place bytes = refl
@@ -157,6 +169,21 @@ abbrev pub Ends : Place → List ℕ → Ahead → Type 0
 Ends place bytes (ts, next.End p) = p ≡ place_after place bytes
 Ends place bytes (ts, next.Stray p) = Unit {0}
 Ends place bytes (ts, next.Token t) = ⊥
+
+ends_more : (place next_place : Place) (bytes left : List ℕ) (tokens : List Token) (a : Ahead) → place_after next_place left ≡ place_after place bytes
+    → Ends next_place left a → Ends place bytes (tokens ++ a.0, a.1)
+ends_more place next_place bytes left tokens (ts, next.End p) same ends = ends ∙ same
+ends_more place next_place bytes left tokens (ts, next.Stray p) same ends = tt
+ends_more place next_place bytes left tokens (ts, next.Token t) same ends = ends
+
+ends_piece : (place : Place) (bytes : List ℕ) (tokens : List Token) (r : Result ℕ PolicyFault) (more : ℕ → Ahead)
+    → ((k : ℕ) → r ≡ Ok k → Ends (place_after place (take k bytes)) (drop k bytes) (more k))
+    → Ends place bytes (with_piece r tokens place more)
+ends_piece place bytes tokens (Err e) more ends = tt
+ends_piece place bytes tokens (Ok k) more ends =
+    let same : place_after (place_after place (take k bytes)) (drop k bytes) ≡ place_after place bytes =
+    sym (place_after-append place (take k bytes) (drop k bytes)) ∙ ap (place_after place) (take-append-drop k bytes) in
+    ends_more place (place_after place (take k bytes)) bytes (drop k bytes) tokens (more k) same (ends k refl)
 
 ahead_ends : (n from : ℕ) (place : Place) (bytes : List ℕ) → length bytes ≤ n → Ends place bytes (ahead n from place bytes)
 unfolding ahead

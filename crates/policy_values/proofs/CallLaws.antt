@@ -64,6 +64,17 @@ module _ (bytes : List ℕ) (net : PlainNet) (known : Names) where
       (sym (sets_pushed bytes net known [] [] x.0)) _ _ (λ sets.
       over_step (call_value bytes net known) (after symbol.RoundClose sets.1) _ _ (λ rest. refl))))
 
+  -- behind a place
+  over_one : (s : Symbol) (ls : List Lexeme) (k : Result LocSet PolicyFault × List Lexeme → Read CallValue) (k' : Arg × List Lexeme → Read RawCall)
+      → ((x : Arg × List Lexeme) → k (set_of_arg bytes net known x.0, x.1) ≡ over (call_value bytes net known) (k' x))
+      → (one_behind bytes net known s ls >>= k) ≡ over (call_value bytes net known) (after s ls >>= λ rest. one_at rest >>= k')
+  over_one s ls k k' same = by (after s ls)
+    where
+      by : (r : Result (List Lexeme) PolicyFault)
+          → ((r >>= λ rest. over (set_of_arg bytes net known) (one_at rest)) >>= k) ≡ over (call_value bytes net known) (r >>= λ rest. one_at rest >>= k')
+      by (Ok rest) = over_read (set_of_arg bytes net known) (call_value bytes net known) (one_at rest) k k' same
+      by (Err e) = refl
+
   link_same : (ls : List Lexeme) → link_read bytes net known ls ≡ over (call_value bytes net known) (link_call ls)
   unfolding link_read link_call
   link_same ls =

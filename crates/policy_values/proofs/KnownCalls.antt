@@ -9,11 +9,12 @@ use Rattle.policy_tokens.specs.declared.fault.PolicyFault.{PolicyFault}
 use Rattle.policy_grammar.specs.declared.lexeme.Lexeme.{Lexeme}
 use Rattle.policy_grammar.specs.Raw.{Arg, Arg as arg, RawCall, Step as step}
 use Rattle.policy_base.specs.declared.call.Call.TheVariants.{Drop}
+use Rattle.policy_base.specs.declared.policy.FromSet.TheVariants.{Named}
 use Rattle.policy_base.specs.Policies.{Ranking, call}
 use Rattle.policy_rules.specs.KnownNames.{Names}
-use Rattle.policy_rules.specs.Checks.{set_at, joined, each, name_known, arg_known, step_known}
+use Rattle.policy_rules.specs.Checks.{set_at, joined, set_of_names, each, name_known, arg_known, step_known}
 use Rattle.policy_rules.specs.Counts.{places_within}
-use Rattle.policy_values.specs.Built.{set_of_arg, sets_of, call_of}
+use Rattle.policy_values.specs.Built.{set_of_arg, sets_of, call_of, from_of}
 use Rattle.policy_values.specs.Parts.{names_of}
 use Rattle.policy_values.specs.CallValues.{value_of}
 
@@ -65,3 +66,8 @@ module _ (bytes : List ℕ) (net : PlainNet) (known : Names) where
   -- its value has the first unknown name
   pub call_names : (c : RawCall) → names_of (value_of bytes net known c) ≡ step_known bytes known (step.Call c)
   call_names c = under (places_within (step.Call c)) c
+
+  -- so have the sources of a statement
+  pub from_names : (a : Arg) → names_of (from_of bytes known a) ≡ arg_known bytes known a
+  from_names arg.Any = refl
+  from_names (arg.Names ls) = called (set_of_names bytes known ls) Named ∙ names_passed no_location ls

@@ -1,14 +1,15 @@
 -- How many lexemes can be left of a text.
-use Rattle.std.proofs.Common.{ℕ, zero, suc, ◌+◌, ◌≤◌, ◌<◌, Bool, true, false, List, [], ◌∷◌, length, take, drop, if◌then◌else◌, length-drop, length-append, arith}
+use Rattle.std.proofs.Common.{ℕ, zero, suc, ◌+◌, ◌≤◌, ◌<◌, Bool, true, false, List, [], ◌∷◌, length, take, drop, Result, Ok, Err, if◌then◌else◌, length-drop, length-append, arith}
 use Rattle.std.specs.Prelude.{◌==◌, map}
 use Rattle.std.proofs.lemmas.List.{length-map}
 use Rattle.net_base.specs.declared.place.Place.{Place}
+use Rattle.policy_tokens.specs.declared.fault.PolicyFault.{PolicyFault}
 use Rattle.policy_tokens.specs.declared.token.Token.{Token}
 use Rattle.policy_tokens.specs.declared.piece.Piece.{Piece}
 use Rattle.policy_tokens.specs.declared.piece.Piece.TheVariants as piece
 use Rattle.policy_tokens.specs.Places.{place_after}
 use Rattle.policy_tokens.specs.Tokens.{piece_at, piece_taken, token_in}
-use Rattle.policy_tokens.specs.Ahead.{ahead, ahead_of}
+use Rattle.policy_tokens.specs.Ahead.{Ahead, with_piece, ahead, ahead_of}
 use Rattle.policy_grammar.specs.declared.lexeme.Lexeme.{Lexeme}
 use Rattle.policy_grammar.specs.declared.symbol.Symbol.TheVariants.{EndOfText}
 use Rattle.policy_grammar.specs.Symbols.{number_of}
@@ -19,6 +20,11 @@ one_at_most : (from : ℕ) (place : Place) (p : Piece) → length (token_in from
 one_at_most from place (piece.Gap k) = omega arith
 one_at_most from place (piece.Token kind k) = omega arith
 one_at_most from place piece.Stray = omega arith
+
+with_few : (n : ℕ) (r : Result ℕ PolicyFault) (tokens : List Token) (place : Place) (more : ℕ → Ahead) → length tokens ≤ 1
+    → ((k : ℕ) → length (more k).0 ≤ n) → length (with_piece r tokens place more).0 ≤ suc n
+with_few n (Ok k) tokens place more one few = omega (arith, length-append tokens (more k).0, one, few k)
+with_few n (Err e) tokens place more one few = omega arith
 
 -- each token has a byte at least
 ahead_few : (n from : ℕ) (place : Place) (bytes : List ℕ) → length (ahead n from place bytes).0 ≤ n

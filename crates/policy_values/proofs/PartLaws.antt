@@ -157,6 +157,22 @@ module _ (bytes : List ℕ) (net : PlainNet) (known : Names) where
 
   -- ---- all parts
 
+  pub parts_names : (steps : List Step) → (parts_of bytes net known steps).names ≡ each (step_known bytes known) steps
+  parts_names steps = names_from no_parts steps
+
+  pub parts_calls : (steps : List Step) → (parts_of bytes net known steps).calls ≡ capped (sum_by call_amount steps)
+  parts_calls steps = let c = calls_from no_parts steps (omega arith) in omega (arith, c)
+
+  pub parts_places : (steps : List Step) → (parts_of bytes net known steps).places ≡ each places_within steps
+  parts_places steps = places_from no_parts steps
+
+  pub parts_marks : (steps : List Step) → (parts_of bytes net known steps).marks ≡ marks_of [] steps
+  parts_marks steps = marks_from no_parts steps
+
+  pub parts_stack : (steps : List Step) → (parts_of bytes net known steps).names ≡ Ok tt → (parts_of bytes net known steps).places ≡ Ok tt → (parts_of bytes net known steps).calls ≤ CALLS
+      → all_behind bytes net known [] steps ≡ Ok (parts_of bytes net known steps).stack
+  parts_stack steps names places calls = stack_from no_parts steps (omega arith) (record { names = names; places = places; calls = calls })
+
   -- ---- reading
 
   followed : (v : PartsValue) (out : List Step) (s : Step) → parts_from bytes net known v (out ++ s ∷ []) ≡ step_onto bytes net known s (parts_from bytes net known v out)

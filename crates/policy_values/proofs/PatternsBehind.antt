@@ -5,6 +5,7 @@ use Rattle.std.proofs.lemmas.Bool.{le-leb}
 use Rattle.net_base.specs.Prefixes.{PlainPattern}
 use Rattle.net_base.specs.Steps.{◌>>=◌}
 use Rattle.net_base.proofs.StepLemmas.{ok_same}
+use Rattle.policy_base.specs.declared.limits.TheConstants.{PATTERNS}
 use Rattle.policy_tokens.specs.declared.fault.PolicyFault.{PolicyFault}
 use Rattle.policy_grammar.specs.declared.lexeme.Lexeme.{Lexeme}
 use Rattle.policy_grammar.specs.declared.symbol.Symbol.TheVariants.{Or, True}
@@ -13,6 +14,7 @@ use Rattle.policy_grammar.specs.Reading.{Read, past, chain}
 use Rattle.policy_grammar.specs.Items.{pattern_at as pattern_in, pattern_link, predicate_at}
 use Rattle.policy_rules.specs.Checks.{each}
 use Rattle.policy_rules.specs.Figures.{pattern_at, pattern_fine}
+use Rattle.policy_rules.proofs.Verdicts.{last_told}
 use Rattle.policy_values.specs.Built.{patterns_of}
 use Rattle.policy_values.specs.PatternValues.{PatternsValue, with_fine, with_pattern, no_patterns, patterns_behind, patterns_value, value_link}
 use Rattle.policy_values.specs.Reads.{over}
@@ -86,6 +88,22 @@ module _ (bytes : List ℕ) where
   pub patterns_count : (ps : List RawPattern) → (patterns_value bytes ps).count ≡ length ps
   patterns_count ps = omega (arith, count_behind no_patterns ps)
 
+  figures_behind : (v : PatternsValue) (ps : List RawPattern) → (patterns_behind bytes v ps).figures ≡ (v.figures >>= λ _. each (pattern_fine bytes) ps)
+  figures_behind v [] = sym (last_told v.figures)
+  figures_behind v (p ∷ ps) =
+      figures_behind (with_pattern v (pattern_at bytes p)) ps
+      ∙ ap (λ (r : Result ⊤ PolicyFault). r >>= λ _. each (pattern_fine bytes) ps) (figures_fine v (v.figures >>= λ _. pattern_at bytes p))
+      ∙ by v.figures (pattern_at bytes p)
+    where
+      by : (r : Result ⊤ PolicyFault) (q : Result PlainPattern PolicyFault)
+          → (fine_of (r >>= λ _. q) >>= λ _. each (pattern_fine bytes) ps) ≡ (r >>= λ _. fine_of q >>= λ _. each (pattern_fine bytes) ps)
+      by (Ok u) q = refl
+      by (Err e) q = refl
+
+  -- their first bad figure
+  pub patterns_figures : (ps : List RawPattern) → (patterns_value bytes ps).figures ≡ each (pattern_fine bytes) ps
+  patterns_figures ps = figures_behind no_patterns ps
+
   list_behind : (v : PatternsValue) (ps : List RawPattern) → v.figures ≡ Ok tt → each (pattern_fine bytes) ps ≡ Ok tt → v.count + length ps ≤ 16384
       → patterns_of bytes v.list ps ≡ Ok (patterns_behind bytes v ps).list
   list_behind v [] fine each_fine few = refl
@@ -100,3 +118,7 @@ module _ (bytes : List ℕ) where
           ∙ ap (λ (x : PatternsValue). let r : Result (List PlainPattern) PolicyFault = Ok (patterns_behind bytes x ps).list in r)
           (sym (ap (with_pattern v) is ∙ kept_fine v q fine (omega (arith, few)))))
       by (Err e) is rest more = absurd cc
+
+  -- the patterns, where each figure is fine and there are no more than a policy may have
+  pub patterns_list : (ps : List RawPattern) → each (pattern_fine bytes) ps ≡ Ok tt → length ps ≤ PATTERNS → patterns_of bytes [] ps ≡ Ok (patterns_value bytes ps).list
+  patterns_list ps fine few = list_behind no_patterns ps refl fine (omega (arith, few))

@@ -31,6 +31,9 @@ good_unless false o at cost h = (refl, h)
 when_good : (b : Bool) (o : Option Offer) (at cost : ℕ) → b ≡ true → is_good o at cost ≡ true → is_good (cond b o None) at cost ≡ true
 when_good b o at cost on h = ap (λ c. is_good (cond c o None) at cost) on ∙ h
 
+unless_good : (b : Bool) (o : Option Offer) (at cost : ℕ) → b ≡ false → is_good o at cost ≡ true → is_good (cond b None o) at cost ≡ true
+unless_good b o at cost off h = ap (λ c. is_good (cond c None o) at cost) off ∙ h
+
 -- the number of a node as the list gives it
 pub number_read : (numbers : List ℕ) (k : ℕ) → number_in numbers k ≡ get_or numbers k 0
 number_read numbers k = elim (cases_lt k (length numbers)) [

@@ -41,6 +41,7 @@ use Rattle.routing_law.proofs.Reach.{tops}
 use Rattle.routing_law.proofs.Runs.{run_more, run_passes}
 use Rattle.settled_law.specs.Greatest.{IsReachedAt}
 use Rattle.impact_law.specs.BestRanks.{AreTops, IsTopAt, rank_of_node}
+use Rattle.impact_law.specs.Impacts.{begin_at}
 use Rattle.impact_law.specs.Nodes.{IsLeast, IsTop}
 use Rattle.outcome_base.specs.Outcomes.{no_failures}
 use Rattle.impact_law.proofs.Support.{survives_all}
@@ -269,6 +270,26 @@ module _ (net : PlainNet) (rules : IsNet net) (s : PlainStatement) (d : PlainCas
 
   all_tops : Tops w
   all_tops = tops w formed
+
+  tops_here : AreTops net no_failures d all_tops.top
+  tops_here = record {
+    some = λ r n is. record {
+      reached = law_reached r n (all_tops.is_reached r n is);
+      over = λ m at.
+          let o = all_tops.over r m (reached_law r m at) in
+          let one : Some o.0 ≡ Some n = sym o.1 ∙ is in
+          let same : o.0 ≡ n = cc in
+          subst (λ k. number_at d m ≤ number_at d k) same o.2;
+    };
+    none = λ r router is n at. let o = all_tops.over r n (reached_law r n at) in none_or_some (all_tops.top r) o.0 is o.1;
+  }
+
+  pub source_rank : (r : ℕ) (peer : Option ℕ) → IsSourceIn net s d.case r peer → (n : ℕ) × IsLeastRank net s d.case (begin_at r peer) n
+  source_rank r peer source = by ((told_by g all_tops.top).rank r peer) ((promised all_tops.top tops_here).ranks r peer (source_place net s d.case r peer source))
+    where
+      by : (o : Option ℕ) → IsPromised net s d.case r peer o → (n : ℕ) × IsLeastRank net s d.case (begin_at r peer) n
+      by None none = absurd (none source)
+      by (Some n) is = (n, is.1)
 
 -- ---- each case of a policy
 

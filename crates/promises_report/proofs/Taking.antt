@@ -1,29 +1,32 @@
 -- The parts of the own space that are told are what routers take from peers.
-use Rattle.std.proofs.Common.{◌≡◌, ℕ, zero, suc, ◌+◌, Bool, true, false, List, [], ◌∷◌, ◌++◌, ◌≤◌, ◌<◌, length, Some, None, inl, inr, refl, sym, ap, subst, ◌∙◌, arith}
-use Rattle.std.specs.Prelude.{◌&&◌, ◌==◌, nat_le, slice_get, if◌then◌else◌}
+use Rattle.std.proofs.Common.{◌≡◌, ℕ, zero, suc, ◌+◌, Bool, true, false, List, [], ◌∷◌, ◌++◌, ◌≤◌, ◌<◌, get_or, length, Some, None, inl, inr, refl, sym, ap, subst, ◌∙◌, arith}
+use Rattle.std.specs.Prelude.{◌&&◌, ◌==◌, not, nat_le, slice_get, if◌then◌else◌}
 use Rattle.std.specs.List.{list_any}
-use Rattle.std.proofs.lemmas.Bool.{and_from, and_parts, cases_Bool, eqb-true, eq-eqb, false_from_ne_true, le-ltb, lt-ltb, leb-true, or_parts, true≢false}
-use Rattle.std.proofs.lemmas.Option.{same_Some}
+use Rattle.std.proofs.lemmas.Bool.{and_from, and_parts, cases_Bool, eqb-true, eq-eqb, false_from_ne_true, le-ltb, lt-ltb, ltb-true, leb-true, not-true, or_parts, true≢false}
+use Rattle.std.proofs.lemmas.Option.{same_Some, slice_get-get_or, slice_get_within}
 use Rattle.list_law.proofs.Items.{slice_get_behind}
-use Rattle.list_law.proofs.Members.{list_any_member}
+use Rattle.list_law.proofs.Members.{list_any_member, list_any-from_IsIn}
 use Rattle.list_law.proofs.Options.{cases_Option}
 use Rattle.net_base.specs.Locations.{numbers_below}
 use Rattle.net_base.specs.Network.{IsNet, PlainNet, is_location, is_peer, is_router, linked}
 use Rattle.net_base.specs.Prefixes.{PlainPrefix}
 use Rattle.net_base.specs.Sets.{holds}
 use Rattle.net_base.proofs.Links.{linked_known}
-use Rattle.net_base.proofs.NumbersBelow.{below_from_In}
+use Rattle.net_base.proofs.NumbersBelow.{In-numbers_below, below_from_In}
 use Rattle.net_base.proofs.RoutersAndPeers.{router_or_peer}
 use Rattle.policy_base.specs.CaseOrigins.{AreOrigins}
 use Rattle.policy_base.specs.Cases.{case_list, external_cases, originated_cases}
 use Rattle.policy_base.specs.declared.case.Case.{Case}
 use Rattle.policy_base.specs.Governing.{governing, is_origin, is_origin_by, statement_of}
 use Rattle.policy_base.specs.Meaning.{at_last, front}
+use Rattle.policy_base.specs.Permitted.{is_permitted}
 use Rattle.policy_base.specs.Policies.{IsPolicyOf, PlainPolicy, PlainStatement, statement_at}
-use Rattle.policy_base.specs.Walks.{steps_linked}
+use Rattle.policy_base.specs.Walks.{is_walk, steps_linked}
 use Rattle.policy_base.proofs.KnownCases.{case_known, known_origins}
-use Rattle.evidence_law.proofs.CaseOrigins.{prefix_permits}
+use Rattle.policy_base.proofs.WalkParts.{walk_parts}
+use Rattle.evidence_law.proofs.CaseOrigins.{case_permits, prefix_permits}
 use Rattle.evidence_law.proofs.ExternalFound.{Known, class_external, external_of, statement_number, ungoverned}
+use Rattle.evidence_law.proofs.PermittedWalks.{permits_parts}
 use Rattle.own_space.specs.declared.open_case.OpenCase.{OpenCase}
 use Rattle.own_space.specs.Laws.{IsForPeers, IsOpen}
 use Rattle.own_space.specs.Open.{number_of}
@@ -134,6 +137,34 @@ module _ (net : PlainNet) (policy : PlainPolicy) (rules : IsNet net) (kept : IsP
         some.1 ∙ sym there.2 ∙ ap (statement_at policy) next ∙ number
   ]
 
+  walk_taken : (s : PlainStatement) → statement_of policy p ≡ Some s → (above rest : List ℕ) (r : ℕ) → is_permitted net policy p s (above ++ r ∷ rest) ≡ true
+      → is_router net r ≡ true → IsTaken net policy p
+  walk_taken s governs above rest r permitted router = by (above ++ r ∷ rest) permitted
+    where
+      by : (path : List ℕ) → is_permitted net policy p s path ≡ true → IsTaken net policy p
+      by path permitted =
+          let parts = permits_parts net (is_origin net policy p) s path permitted in
+          let ends = and_parts (at_last (is_origin net policy p) path) (not (list_any (is_origin net policy p) (front path))) parts.1 in
+          let last : at_last (is_peer net) path ≡ true = ap (λ (o : ℕ → Bool). at_last o path) (sym peers) ∙ ends.0 in
+          let none : list_any (is_peer net) (front path) ≡ false = ap (λ (o : ℕ → Bool). list_any o (front path)) (sym peers) ∙ not-true _ ends.1 in
+          of_path path permitted (walk_parts net path parts.0).0 last none parts.0
+        where
+          of_path : (ls : List ℕ) → is_permitted net policy p s ls ≡ true → steps_linked net ls ≡ true → at_last (is_peer net) ls ≡ true
+              → list_any (is_peer net) (front ls) ≡ false → is_walk net ls ≡ true → IsTaken net policy p
+          of_path [] permitted steps last none walk = absurd (true≢false (sym walk))
+          of_path (l ∷ []) permitted steps last none walk = absurd (true≢false (sym walk))
+          of_path (l ∷ k ∷ ls) permitted steps last none walk =
+              let step = last_step net rules l k ls steps last none in
+              record {
+                s = s;
+                governs = governs;
+                router = step.router;
+                peer = step.peer;
+                at = step.at;
+                above = step.above;
+                permitted = subst (λ (ks : List ℕ). is_permitted net policy p s ks ≡ true) step.is permitted;
+              }
+
   open_taken : IsOpen policy taking p → IsTaken net policy p
   open_taken o =
       let x = taking_from net 1 o.0 o.1 (case_list net policy) xs o.3 in
@@ -157,6 +188,21 @@ module _ (net : PlainNet) (policy : PlainPolicy) (rules : IsNet net) (kept : IsP
   known_statements : Known net policy p 1 policy.statements
   unfolding Known
   known_statements i s at = let same : 1 + i ≡ suc i = omega arith in (ap (statement_at policy) same ∙ at, λ t h. kept.patterns s t (i, at) h)
+
+  case_open : (k place : ℕ) (c : Case) (s : PlainStatement) → slice_get (case_list net policy) place ≡ Some c → c.external ≡ true → c.statement ≡ k
+      → governing policy p ≡ Some k → statement_at policy k ≡ Some s → (above rest : List ℕ) (r : ℕ) → is_router net r ≡ true
+      → is_permitted net policy p s (above ++ r ∷ rest) ≡ true → IsOpen policy taking p
+  case_open k place c s at external statement governed number above rest r router permitted =
+      let within : place < length xs = omega (arith, slice_get_within (case_list net policy) place c at, promised.size) in
+      let nobody : Promises = record { rank = λ r peer. None; passes = λ r. false } in
+      let a = get_or xs place nobody in
+      let one : slice_get xs place ≡ Some a = slice_get-get_or xs place nobody within in
+      let walks = (promised.each place c s a at (ap (statement_at policy) statement ∙ number) one).walks r router in
+      let passes : a.passes r ≡ true = walks.1 (above, rest, case_permits net policy p s (of_case place c at external) (above ++ r ∷ rest) permitted) in
+      let routers = numbers_below (length net.routers) in
+      let some = list_any-from_IsIn a.passes routers r (In-numbers_below r (length net.routers) (ltb-true _ _ router)) passes in
+      let n = taking_there net 1 (case_list net policy) xs k place c a at one statement (and_from c.external (list_any a.passes routers) external some) in
+      (k, n.0, governed, n.1)
 
   taken_open : IsTaken net policy p → IsOpen policy taking p
   taken_open x =

@@ -3,11 +3,13 @@ use Rattle.std.proofs.Common.{◌≡◌, ◌≢◌, ℕ, ◌+◌, List, [], ◌�
 use Rattle.std.specs.Prelude.{option_map, option_and_then, slice_get, codes, if◌then◌else◌, ◌||◌, nat_eq}
 use Rattle.std.specs.Str.{bytes_eq}
 use Rattle.std.proofs.lemmas.Bool.{eqb-true}
+use Rattle.std.proofs.lemmas.Slice.Eq.{bytes_eq-Decides}
 use Rattle.compile_jobs.specs.declared.written.Part.TheVariants as part
-use Rattle.help_texts.specs.Pages.{word_of}
+use Rattle.help_texts.specs.Pages.{topic_named, topics, word_of}
 use Rattle.help_texts.specs.declared.topic.Topic.{Topic}
 use Rattle.help_texts.specs.declared.topic.Topic.TheVariants as topic
 use Rattle.list_law.proofs.Options.{option_and_then_parts, option_map_parts}
+use Rattle.list_law.proofs.Tests.{find_parts}
 use Rattle.propane_run.specs.declared.command.Command.{Command}
 use Rattle.propane_run.specs.declared.command.Command.TheVariants.{Compile, Evidence, Check, Explain, Impact, RouteMap, CheckMap, Lint, Audit, Migrate}
 use Rattle.propane_run.specs.declared.command.Command.TheVariants.{Sample, Help, Version, Promises, Maps, Between, Renew, Under, After}
@@ -82,6 +84,13 @@ named topic.Between rest c h =
 named topic.Renew rest c h = is_of (Renew part.Config) c topic.Renew refl h
 named topic.Renewal rest c h = is_of (Renew part.Evidence) c topic.Renewal refl h
 named topic.Waiting rest c h = is_of (After Waiting) c topic.Waiting refl h
+
+-- a word by which every program is asked names help or the version alone
+own_word : (help version : Bool) (word : List ℕ) (t : Topic) → t ≢ topic.Help → t ≢ topic.Version
+    → (if help then Some topic.Help else if version then Some topic.Version else topic_named word) ≡ Some t → word ≡ word_of t
+own_word true version word t not_help not_version h = absurd (not_help (let same : topic.Help ≡ t = cc in sym same))
+own_word false true word t not_help not_version h = absurd (not_version (let same : topic.Version ≡ t = cc in sym same))
+own_word false false word t not_help not_version h = (bytes_eq-Decides word (word_of t)).0 (find_parts (λ t. bytes_eq word (word_of t)) topics t h).2
 
 counted : (b : Bool) (c d : Command) → (if b then Some c else None) ≡ Some d → (b ≡ true) × (c ≡ d)
 counted true c d h = (refl, let same : c ≡ d = cc in same)

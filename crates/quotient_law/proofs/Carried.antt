@@ -1,12 +1,12 @@
 -- Numbers of one graph keep pairs of a graph that is alike from going.
-use Rattle.std.proofs.Common.{◌≡◌, ℕ, zero, suc, ◌<◌, ◌≤◌, Bool, true, not, nat_le, inl, inr, arith, refl, sym, ap, ◌∙◌}
-use Rattle.std.proofs.lemmas.Bool.{cases_lt, and_parts, and_from, not-true, not_from_false, or_parts, leb-true}
+use Rattle.std.proofs.Common.{◌≡◌, ℕ, zero, suc, ◌<◌, ◌≤◌, Bool, true, false, not, nat_le, inl, inr, arith, refl, sym, ap, ◌∙◌}
+use Rattle.std.proofs.lemmas.Bool.{cases_lt, and_parts, and_from, not-true, not_from_false, or_parts, or_from, leb-true}
 use Rattle.relation_law.specs.Numbers.{AreNumbers}
 use Rattle.relation_law.specs.Relations.{Meets, Pair, IsTotal, no_worse, steps_on}
 use Rattle.relation_law.specs.Rounds.{IsReach, gone_after, is_pair, left_after, fails}
 use Rattle.relation_law.specs.Views.{View}
 use Rattle.relation_law.proofs.Ranks.{no_worse_trans}
-use Rattle.relation_law.proofs.Rounds.{Answer, Hearer, pair_from, pair_to, rules_are_met}
+use Rattle.relation_law.proofs.Rounds.{Answer, Hearer, pair_from, pair_to, no_rule_fails, rules_are_met}
 use Rattle.quotient_law.specs.Alike.{IsAlike}
 
 module _ (v : View) (reach : ℕ → ℕ → Bool) (exact : IsReach v reach) where
@@ -25,6 +25,14 @@ module _ (v : View) (reach : ℕ → ℕ → Bool) (exact : IsReach v reach) whe
       let p = and_parts (is_pair v a b) (not (gone_after v reach (suc k) a b)) h in
       let stays = or_parts (gone_after v reach k a b) (fails v reach (gone_after v reach k) a b) (not-true _ p.1) in
       and_from _ _ p.0 (not_from_false _ stays.0)
+
+  left_next : (k a b : ℕ) → left_after v reach k a b ≡ true → Meets v (left_after v reach k) a b → left_after v reach (suc k) a b ≡ true
+  left_next k a b h meets =
+      let p = and_parts (is_pair v a b) (not (gone_after v reach k a b)) h in
+      let stays : fails v reach (gone_after v reach k) a b ≡ false =
+      no_rule_fails v reach (λ x y lx ly. (exact x y lx ly).0) (left_after v reach k) (gone_after v reach k) a b (pair_from v a b p.0).left meets
+      (λ x y e. not-true _ (and_parts (is_pair v x y) (not (gone_after v reach k x y)) e).1) in
+      and_from _ _ p.0 (not_from_false _ (or_from _ _ (not-true _ p.1) stays))
 
   -- what is left after so many rounds is transitive
   pub left_trans : (k a b c : ℕ) → left_after v reach k a b ≡ true → left_after v reach k b c ≡ true → left_after v reach k a c ≡ true

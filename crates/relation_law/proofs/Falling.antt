@@ -206,6 +206,7 @@ module _ (g : PlainGraph) (claimed : LocSet) (ok : IsGraph g) (reach : ℕ → �
       let x = goes_where_gone g claimed ok reach rounds m n (pair_from V' m n parts.0) parts.1 in
       (record { better = m; worse = n; round = x.0; why = x.1 }, (0, refl), refl, refl)
 
+  line_goes : (m n : ℕ) (b : Bool) (e : went m n ≡ b) (l : Removed) → IsLine (lines_at m n b e) l → Goes V' reach l.better l.worse l.round l.why
   unfolding lines_at
   line_goes m n false e l (i, h) = absurd (cc)
   line_goes m n true e l (zero, h) =
@@ -229,6 +230,7 @@ module _ (g : PlainGraph) (claimed : LocSet) (ok : IsGraph g) (reach : ℕ → �
       let x = line_here m n (went m n) refl (and_from (is_pair V' m n) (gone_after V' reach rounds m n) (pair_to V' m n pair) gone) in
       (x.0, over_in V'.size m (λ m. over V'.size (λ n. lines_at m n (went m n) refl)) x.0 pair.left (over_in V'.size n (λ n. lines_at m n (went m n) refl) x.0 pair.right x.1), x.2, x.3)
 
+  line_gone : (m n : ℕ) (b : Bool) (e : went m n ≡ b) (l : Removed) → IsLine (lines_at m n b e) l → gone_after V' reach rounds l.better l.worse ≡ true
   unfolding lines_at
   line_gone m n false e l (i, h) = absurd (cc)
   line_gone m n true e l (zero, h) =

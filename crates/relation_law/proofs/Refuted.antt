@@ -1,19 +1,49 @@
 -- Lines whose reasons hold show that a direction of the pair is in no closed relation.
-use Rattle.std.proofs.Common.{◌≡◌, ℕ, zero, suc, ◌<◌, ◌≤◌, Bool, false, List, inl, inr, arith, sym, ap, ◌∙◌, subst}
-use Rattle.std.proofs.lemmas.Bool.{both_ways, false_from_ne_true}
+use Rattle.std.proofs.Common.{◌≡◌, ℕ, zero, suc, ◌<◌, ◌≤◌, Bool, true, false, List, Option, Some, inl, inr, arith, sym, ap, ◌∙◌, subst}
+use Rattle.std.proofs.lemmas.Bool.{and_parts, both_ways, false_from_ne_true}
 use Rattle.net_base.specs.declared.loc.LocSet.{LocSet}
 use Rattle.net_base.specs.Sets.{holds}
 use Rattle.graph_base.specs.declared.refutation.Removed.{Removed}
+use Rattle.graph_base.specs.declared.refutation.Why.{Why}
+use Rattle.graph_base.specs.declared.refutation.Why.TheVariants.{RankWorse, NoStep, StepWorse, LoopWorse, ListenerWorse}
 use Rattle.graph_base.specs.Graphs.{PlainGraph, IsGraph}
-use Rattle.graph_base.specs.Refuting.{HasSingleSteps, IsJustified, IsLine, Refutes}
+use Rattle.graph_base.specs.Refuting.{HasSingleSteps, IsJustified, IsLine, IsWorse, Refutes, Says, WasRemoved}
+use Rattle.graph_base.specs.Runs.{rank_at, has_step}
 use Rattle.relation_law.specs.Numbers.{AreNumbers}
-use Rattle.relation_law.specs.Relations.{IsClosed, Pair}
+use Rattle.relation_law.specs.Relations.{IsClosed, Meets, Pair, no_worse}
 use Rattle.relation_law.specs.Views.{View, view_of}
+use Rattle.graph_base.proofs.StartsAndSteps.{step_nodes}
+use Rattle.relation_law.proofs.Ranks.{no_worse_some}
 use Rattle.relation_law.proofs.Counts.{by_number, by_number-closed, by_number-total}
+use Rattle.relation_law.proofs.Rounds.{Answer, Hearer}
+
+-- no rank is both worse and no worse
+not_worse : (one other : Option ℕ) → IsWorse one other → no_worse one other ≡ true → ⊥
+not_worse one other w h =
+    let x : (j : ℕ) × (one ≡ Some j) × (j ≤ w.0) = no_worse_some one w.0 (ap (no_worse one) (sym w.1) ∙ h) in
+    absurd (omega (arith, x.2, w.2 x.0 x.1))
 
 module _ (g : PlainGraph) (claimed : LocSet) (ok : IsGraph g) (single : HasSingleSteps g) (lines : List Removed) (s : ℕ → ℕ → Bool) where
   abbrev V : View
   V = view_of g claimed
+
+  -- where the reason holds, and what it rests on isn't in the relation, the rules aren't met
+  unmet : (m n round : ℕ) (why : Why) → Says g (holds claimed) lines round m n why → Meets V s m n → ((a b : ℕ) → WasRemoved lines round a b → s a b ≡ false) → ⊥
+  unmet m n round RankWorse says meets earlier = not_worse (rank_at g m) (rank_at g n) says.1 (meets.rank says.0)
+  unmet m n round (NoStep z) says meets earlier =
+      let t : ℕ = says.0.0 in
+      let st = says.0.1.0 in
+      let x : Answer V s m t = meets.step t (step_nodes g n t ok (and_parts (has_step g n t) _ st).0).1 st in
+      says.1 x.0 (x.2, x.3 ∙ says.0.1.1)
+  unmet m n round (StepWorse z) (a, t, mine, theirs, gone) meets earlier =
+      let x : Answer V s m t = meets.step t (step_nodes g n t ok (and_parts (has_step g n t) _ theirs.0).0).1 theirs.0 in
+      let same : x.0 ≡ a = single m x.0 a (and_parts (has_step g m x.0) _ x.2).0 (and_parts (has_step g m a) _ mine.0).0 (x.3 ∙ theirs.1 ∙ sym mine.1) in
+      both_ways (s a t) (earlier a t gone) (ap (λ y. s y t) (sym same) ∙ x.4)
+  unmet m n round (LoopWorse z k) (t, theirs, lk, place, leads, gone) meets earlier =
+      both_ways (s k t) (earlier k t gone) (meets.loop t k (step_nodes g n t ok (and_parts (has_step g n t) _ theirs.0).0).1 lk theirs.0 (place ∙ sym theirs.1) leads)
+  unmet m n round (ListenerWorse p) (t, theirs, worse) meets earlier =
+      let x : Hearer V m t = meets.listener t (step_nodes g n t ok (and_parts (has_step g n t) _ theirs.0).0).1 theirs.0 in
+      not_worse (rank_at g x.0) (rank_at g t) (worse x.0 (x.2, x.3 ∙ theirs.1)) x.4
 
   module _ (closed : IsClosed V s) (each : (l : Removed) → IsLine lines l → IsJustified g (holds claimed) lines l) where
     -- no closed relation has the direction of a line

@@ -1,11 +1,11 @@
 -- What the rounds leave is the greatest closed relation.
 use Rattle.std.proofs.Common.{◌≡◌, ℕ, zero, suc, ◌<◌, Bool, true, false, not, ◌&&◌, ◌||◌, inl, inr, refl, sym, ◌∙◌}
-use Rattle.std.proofs.lemmas.Bool.{or_parts, or_from, and_parts, and_from, and_cases, not-true, not-false, not_from_false, both_ways, eqb-true}
+use Rattle.std.proofs.lemmas.Bool.{or_cases, or_parts, or_from, cases_Bool, and_parts, and_from, and_cases, not-true, not-false, not_from_false, both_ways, eqb-true}
 use Rattle.std.proofs.lemmas.Bool.{eq-eqb, ltb-true, lt-ltb, false_from_ne_true, cond-true, cond-false}
 use Rattle.relation_law.specs.Relations.{Pair, Meets, IsClosed, IsGreatest, IsTotal, no_worse, steps_on, is_heard}
 use Rattle.relation_law.specs.Rounds.{IsReach, same_place, has_answer, is_heard_there, is_looped, fails_at, fails, gone_after, is_pair, left_after, TakesNothingMore}
 use Rattle.relation_law.specs.Views.{View}
-use Rattle.relation_law.proofs.Tests.{any_found, none_at, none_below}
+use Rattle.relation_law.proofs.Tests.{any_found, any_at, none_at, none_below}
 
 -- a node to which m steps where t stands, above t
 abbrev pub Answer : View → (ℕ → ℕ → Bool) → ℕ → ℕ → Type 0
@@ -50,6 +50,27 @@ abbrev pub IsWhole : View → (ℕ → ℕ → Bool) → Type 0
 IsWhole v reach = (a b : ℕ) → a < v.size → b < v.size → v.Leads a b → reach a b ≡ true
 
 module _ (v : View) (reach : ℕ → ℕ → Bool) (sound : IsSound v reach) where
+  -- where the rules are met against a relation of which no pair has gone, none fails at a step
+  none_fails_at : (r gone : ℕ → ℕ → Bool) (m n t : ℕ) → m < v.size → t < v.size → Meets v r m n → ((a b : ℕ) → r a b ≡ true → gone a b ≡ false)
+      → v.step n t ≡ true → fails_at v reach gone m t ≡ true → ⊥
+  none_fails_at r gone m n t lm lt h left st e = elim (cases_Bool (v.hears t)) [
+    | inl l ↦ (
+        let none : is_heard_there v m t ≡ false = not-true _ (sym (fails_heard v reach gone m t l) ∙ e) in
+        let x : Hearer v m t = h.listener t lt (and_from _ _ st l) in
+        both_ways _ none (any_at v.size (λ s. is_heard v m s && (same_place v s t && no_worse (v.rank s) (v.rank t))) x.0 x.1 (and_from _ _ x.2 (and_from _ _ (eq-eqb _ _ x.3) x.4))))
+    | inr l ↦ elim (or_cases (not (has_answer v gone m t)) (is_looped v reach gone m t) (sym (fails_stepped v reach gone m t l) ∙ e)) [
+      | inl f ↦ (
+          let x : Answer v r m t = h.step t lt (and_from _ _ st (not_from_false _ l)) in
+          both_ways _ (not-true _ f) (any_at v.size (λ s. steps_on v m s && (same_place v s t && not (gone s t))) x.0 x.1
+          (and_from _ _ x.2 (and_from _ _ (eq-eqb _ _ x.3) (not_from_false _ (left x.0 t x.4))))))
+      | inr f ↦ (
+          let y : (k : ℕ) × (k < v.size) × ((same_place v k t && (reach k m && gone k t)) ≡ true) = any_found v.size (λ k. same_place v k t && (reach k m && gone k t)) f in
+          let y1 = and_parts _ _ y.2 in
+          let y2 = and_parts _ _ y1.1 in
+          both_ways _ (left y.0 t (h.loop t y.0 lt y.1 (and_from _ _ st (not_from_false _ l)) (eqb-true _ _ y1.0) (sound y.0 m y.1 lm y2.0))) y2.1)
+    ]
+  ]
+
   pub no_rule_fails : (r gone : ℕ → ℕ → Bool) (m n : ℕ) → m < v.size → Meets v r m n → ((a b : ℕ) → r a b ≡ true → gone a b ≡ false) → fails v reach gone m n ≡ false
   no_rule_fails r gone m n lm h left =
       or_from _ _

@@ -1,5 +1,7 @@
 -- What is said of an old configuration and a policy: the text of a renewal, or why there is none.
-use Rattle.std.proofs.Common.{◌≡◌, ℕ, ◌<◌, ◌^◌, inl, inr, List, refl, sym, ap, ◌∙◌, subst}
+use Rattle.std.proofs.Common.{◌≡◌, ℕ, ◌<◌, ◌^◌, inl, inr, List, refl, sym, ap, ◌∙◌, subst, arith}
+use Rattle.list_law.proofs.Members.{AllByRecursion-IsIn}
+use Rattle.net_base.specs.declared.numbers.Tag.{Tag}
 use Rattle.net_base.specs.Network.{PlainNet}
 use Rattle.policy_base.specs.Policies.{PlainPolicy}
 use Rattle.config_base.specs.Configs.{PlainConfig}
@@ -12,7 +14,8 @@ use Rattle.compile_jobs.specs.Written.{WritesPart}
 use Rattle.compile_jobs.specs.declared.written.Part.{Part}
 use Rattle.compile_jobs.specs.declared.written.Part.TheVariants.{Config, Evidence}
 use Rattle.compile_jobs.proofs.Compiling.{never_refused, only}
-use Rattle.evidence_renewal.specs.Renewed.{AreRenewed, IsRenewal, IsRenewedEvidence}
+use Rattle.evidence_renewal.specs.Renewed.{AreRenewed, AreRenewedCases, IsRenewal, IsRenewedEvidence, RunsOut, raised}
+use Rattle.evidence_renewal.proofs.Cases.{renewed_forth}
 use Rattle.evidence_renewal.proofs.One.{one_renewal}
 use Rattle.refusal_lines.specs.RefusalLines.{refusal_line}
 use Rattle.run_base.specs.declared.outcome.Status.TheVariants.{Refused}
@@ -21,6 +24,11 @@ use Rattle.run_base.proofs.Jobs.{IsJobSaid, in_text, in_refusal}
 use Rattle.renewal_jobs.specs.Renewing.{PrefsRunOut, SaysOfOld, run_out_line, top_of}
 
 -- ---- where evidence is renewed, preferences don't run out
+
+never_past : (taken : List Tag) (by : ℕ) (cs ds : List PlainCaseEvidence) → AreRenewedCases taken by cs ds → RunsOut by cs → ⊥
+never_past taken by cs ds are past =
+    let d = renewed_forth taken by cs ds are past.is.0 past.case past.is.1 in
+    omega (arith, AllByRecursion-IsIn (λ n. raised by n < 2 ^ 32) past.case.numbers past.number d.2.fit past.among, past.past)
 
 -- a part of what is renewed has one text
 part_text : (part : Part) (config : PlainConfig) (evidence : List PlainCaseEvidence) (one other : List ℕ) → WritesPart part config evidence one → WritesPart part config evidence other → one ≡ other

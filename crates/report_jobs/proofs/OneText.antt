@@ -1,8 +1,8 @@
 -- A network and a policy have one text of promises.
 use Rattle.std.proofs.Common.{◌≡◌, ◌↔◌, ℕ, ◌+◌, suc, Bool, true, false, List, [], ◌∷◌, ◌++◌, length, Option, Some, None, refl, sym, ap, ap₂, ◌∙◌, inl, inr, arith}
-use Rattle.std.specs.Prelude.{◌&&◌, ◌||◌, not, map, slice_get, if◌then◌else◌}
+use Rattle.std.specs.Prelude.{◌&&◌, ◌||◌, not, IsTrue, map, slice_get, if◌then◌else◌}
 use Rattle.std.specs.List.{list_any}
-use Rattle.std.proofs.lemmas.Bool.{and_from, cases_Bool, lt-ltb, not_from_false}
+use Rattle.std.proofs.lemmas.Bool.{and_from, cases_Bool, lt-ltb, not_from_false, true≢false}
 use Rattle.list_law.specs.Members.{IsIn}
 use Rattle.list_law.proofs.Changed.{map_same}
 use Rattle.list_law.proofs.Members.{IsIn-filter_parts, IsIn-later}
@@ -35,6 +35,12 @@ one_rank net s c r peer (Some m) (Some n) x y =
     let one = x.1.least y.1.path.0 n y.1.path.1 y.1.path.2 in
     let other = y.1.least x.1.path.0 m x.1.path.1 x.1.path.2 in
     ap Some (omega (arith, one, other))
+
+one_test : {P : Type 0} (a b : Bool) → (IsTrue a ↔ P) → (IsTrue b ↔ P) → a ≡ b
+one_test true true x y = refl
+one_test true false x y = absurd (true≢false (sym (y.1 (x.0 refl))))
+one_test false true x y = absurd (true≢false (sym (x.1 (y.0 refl))))
+one_test false false x y = refl
 
 any_same : {A : Type 0} (p q : A → Bool) (xs : List A) → ((x : A) → IsIn xs x → p x ≡ q x) → list_any p xs ≡ list_any q xs
 any_same p q [] same = refl

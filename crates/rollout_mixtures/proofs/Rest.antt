@@ -14,6 +14,7 @@ use Rattle.policy_base.specs.Policies.{IsPolicyOf}
 use Rattle.policy_base.specs.Governing.{is_origin}
 use Rattle.config_base.specs.declared.route.Route.{Route}
 use Rattle.evidence_base.specs.Made.{PlainCaseEvidence}
+use Rattle.outcome_base.specs.Outcomes.{route_at}
 use Rattle.evidence_law.specs.Passes.{Passes}
 use Rattle.event_base.specs.Speaking.{speakers_of}
 use Rattle.event_base.specs.Steps.{IsQuiet, run}
@@ -150,6 +151,12 @@ module _ (k : Two) (rules : IsNet k.s.net) (prefix : IsPrefix k.s.p) (cs ds : Li
 
   pub earlier : (out2 : ℕ → Option Route) → Settles k.s.net k.old.policy k.old.config k.s.p (w1 k out2) (scenario_of k.s.net (w1 k out2))
   earlier out2 = settles k.s.net k.old.policy k.old.config cs rules lawful passes k.s.p prefix (w1 k out2) (scenario_of k.s.net (w1 k out2)) (cut_scenario (off1 k out2) (flipped k) (off1_router out2))
+
+  pub comes_to_an_end : IsKept (mixed k.s.net k.s.says k.s.p k.s.m) k.s.w → AreKinds (IsHolding k.s.net) (IsSaying k.s.net) k.s.w → ComesToAnEnd k.s.net k.s.says k.s.p k.s.m k.s.w
+  comes_to_an_end kept trails =
+      let out2 = route_at later.outcome in
+      let one = earlier out2 in
+      ends k out2 later.order (route_at one.outcome) one.order rules kept trails
 
 -- a world after events and loads, and its two sides
 abbrev pub two_of : (net : PlainNet) (says : ℕ → Bool) (p : PlainPrefix) (old new : Part) (cs ds : List PlainCaseEvidence) (s : Running) → IsNet net

@@ -14,7 +14,7 @@ use Rattle.config_base.specs.Lines.{class_of, import_of, own_route}
 use Rattle.evidence_base.specs.Made.{PlainCaseEvidence}
 use Rattle.outcome_base.specs.Outcomes.{Failures, IsStable, Outcome, given, is_dead, route_at}
 use Rattle.evidence_law.specs.Passes.{Passes}
-use Rattle.evidence_law.proofs.Existence.{held, outcome_of, route_of as line_route}
+use Rattle.evidence_law.proofs.Existence.{held, outcome-size, outcome_of, route_of as line_route, unheld}
 use Rattle.evidence_law.proofs.ExistenceLaw.{lone_stable, own_alone}
 use Rattle.evidence_law.proofs.Heard.{no_gift}
 use Rattle.evidence_law.proofs.Setting.{alive_of, lines_of, network_of, pairs_of, setup_of}
@@ -29,7 +29,7 @@ use Rattle.settled_law.specs.Settled.{IsFullyStable}
 use Rattle.settled_law.proofs.Fully.{fully, names_differ}
 use Rattle.settled_law.proofs.SettledLaw.{bare_fully, case_or_bare}
 use Rattle.event_base.specs.Speaking.{extended, speakers_of, taken_by}
-use Rattle.event_base.specs.World.{Speakers, World}
+use Rattle.event_base.specs.World.{Speakers, World, running}
 use Rattle.event_law.specs.Scenarios.{IsScenarioOf}
 use Rattle.event_law.proofs.First.{NoLater}
 use Rattle.rest_law.specs.Orders.{at_rest, rests}
@@ -38,7 +38,7 @@ use Rattle.rest_law.proofs.Ending.{HasOrder}
 use Rattle.rest_law.proofs.Graphs.{held_in}
 use Rattle.rest_law.proofs.OfGraph.{are_of_graph, route_of, setup}
 use Rattle.rest_law.proofs.Ordered.{bare, bare_order, ordered}
-use Rattle.rollout_mixtures.proofs.Resters.{dead_rests, down_at_rest, is_chooser, own_at_rest, own_rests}
+use Rattle.rollout_mixtures.proofs.Resters.{dead_rests, down_at_rest, is_chooser, own_at_rest, own_rests, peer_rests}
 
 -- The routers settle in an order, and what they settle on is an outcome of f with ties broken.
 pub record Settles (net : PlainNet) (policy : PlainPolicy) (config : PlainConfig) (p : PlainPrefix) (w : World Route) (f : Failures) : Type 0 where
@@ -50,6 +50,24 @@ pub record Settles (net : PlainNet) (policy : PlainPolicy) (config : PlainConfig
 module _ (net : PlainNet) (policy : PlainPolicy) (config : PlainConfig) (p : PlainPrefix) (rules : IsNet net) (w : World Route) (f : Failures) (scenario : IsScenarioOf net w f) where
   abbrev S : Speakers Route
   S = speakers_of net policy config p
+
+  -- An outcome is settled on, where its routes are those of an order at each router.
+  settles_on : (out g : ℕ → Option Route) → HasOrder net policy config p w out → IsFullyStable net policy config f p (outcome_of net g)
+      → ((r : ℕ) → is_router net r ≡ true → out r ≡ route_at (outcome_of net g) r) → Settles net policy config p w f
+  settles_on out g order full same = record {
+    outcome = outcome_of net g;
+    size = outcome-size net g;
+    full = full;
+    order = subst (HasOrder net policy config p w) (λ i r. everywhere r i) order;
+  }
+    where
+      everywhere : (r : ℕ) → out r ≡ route_at (outcome_of net g) r
+      everywhere r = elim (cases_Bool (is_router net r)) [
+        | inl router ↦ same r router
+        | inr off ↦
+            order.rested r (peer_rests net policy config p w r off)
+            ∙ cond-false (running S w r) (S.choose r (λ u. None)) None (and_left (is_router net r) (not (w.down r)) off) ∙ sym (unheld net g r off)
+      ]
 
   -- what is down is at rest without a route
   down_holds : (x : Option Route) (r : ℕ) → w.down r ≡ true → (if rests S w r then at_rest S w r else x) ≡ None

@@ -9,7 +9,7 @@ use Rattle.event_law.specs.Kinds.{AreKinds}
 use Rattle.config_base.specs.Configs.{IsConfig}
 use Rattle.rollout_base.specs.Lines.{AreApart, SaysNoMore}
 use Rattle.rollout_base.specs.Mixtures.{Change, Loaded, Mixture, Part, after, begins}
-use Rattle.rollout_base.specs.Moments.{Holds, IsRightByEither}
+use Rattle.rollout_base.specs.Moments.{Holds, IsRightByEither, MayHear}
 use Rattle.rollout_base.specs.Stages.{SayAlike}
 use Rattle.rollout_stages.specs.Moments.{EveryMomentOfARolloutIsRight}
 use Rattle.rollout_law.proofs.Layers.{Held_at, OnTheWay, after-kinds, begins-kinds}
@@ -29,6 +29,10 @@ module _ (net : PlainNet) (says : ℕ → Bool) (p : PlainPrefix) (x y : Part) (
   held_right : (r : ℕ) (h : Route) → At r h → Holds net x.policy p r h.path ⊎ Holds net y.policy p r h.path
   held_right r h (inl k) = inl (one.holds r h k)
   held_right r h (inr k) = inr (two.holds r h k)
+
+  hears_right : (a b : ℕ) (m : Route) → is_router net a ≡ true → is_peer net b ≡ true → one.On a b m ⊎ two.On a b m → MayHear net x.policy p (b ∷ m.path) ⊎ MayHear net y.policy p (b ∷ m.path)
+  hears_right a b m router peer (inl k) = inl (one.hears a b m router peer k)
+  hears_right a b m router peer (inr k) = inr (two.hears a b m router peer k)
 
   pub right : (w : World Route) → AreKinds At On w → IsRightByEither net x.policy y.policy p w
   right w k = record {

@@ -1,13 +1,16 @@
 -- What a stage says.
 use Rattle.std.proofs.Common.{◌≡◌, ℕ, true, ◌⊎◌, List, Option, Some, None, refl, sym, ◌∙◌, subst, inl, inr}
 use Rattle.std.specs.Option.{option_and_then, option_or}
+use Rattle.std.specs.List.{find}
 use Rattle.std.proofs.lemmas.Bool.{cases_Bool}
-use Rattle.list_law.proofs.Options.{option_and_then_parts, unless_parts}
+use Rattle.list_law.proofs.Options.{option_and_then_parts, unless_parts, when_parts}
 use Rattle.net_base.specs.declared.numbers.Tag.{Tag}
-use Rattle.net_base.specs.Network.{PlainNet, is_router}
+use Rattle.net_base.specs.Network.{PlainNet, is_named, is_router}
 use Rattle.net_base.specs.Prefixes.{PlainPrefix}
+use Rattle.config_base.specs.declared.config.RouterConfig.{RouterConfig}
+use Rattle.config_base.specs.declared.config.Session.{Session}
 use Rattle.config_base.specs.Configs.{PlainConfig}
-use Rattle.config_base.specs.Lines.{block_at, class_of, export_by, export_of, import_of, is_looped, line_by}
+use Rattle.config_base.specs.Lines.{block_at, class_of, export_by, export_of, import_of, is_looped, line_by, router_at}
 use Rattle.rollout_base.specs.Lines.{GivesTag, ReadsAs, SaysNoMore, sends, takes}
 use Rattle.rollout_base.specs.Mixtures.{Part}
 use Rattle.rollout_base.specs.Stages.{AreStages, HasStartsOf, IsOfRollout, MayMix, staged}
@@ -32,6 +35,11 @@ twice None b same = sym same
 -- ---- who sends and takes is a router
 
 module _ (net : PlainNet) (config : PlainConfig) (p : PlainPrefix) where
+  has_block : (r z : ℕ) (b : Session) → block_at net config r z ≡ Some b → is_router net r ≡ true
+  has_block r z b e =
+      let c = option_and_then_parts _ (router_at net config r) b e in
+      (when_parts (is_router net r) (find (λ (d : RouterConfig). is_named net d.name r) config.routers) c.0 c.1).0
+
   pub sender : (r z : ℕ) (tag t : Tag) → sends net config p r z tag ≡ Some t → is_router net r ≡ true
   sender r z tag t e =
       let c = option_and_then_parts (λ class. export_of net config class r z tag) (class_of config p) t e in

@@ -33,6 +33,7 @@ use Rattle.route_map_text.specs.declared.line.MapLine.{MapLine}
 use Rattle.route_map_text.specs.declared.line.MapLine.TheVariants.{List as ListOf, Entry, Block}
 use Rattle.route_map_text.specs.MapLines.{kind_of, list_line, network_line, matched, unmatched, in_line, exported, out_line, as_block, form_line, words_line, map_line_of}
 use Rattle.route_map_text.specs.MapLineText.{map_line_text, IsMapLine, IsNumbered}
+use Rattle.route_map_text.proofs.Entries.{entry}
 use Rattle.route_map_text.proofs.MapJoined.{kind_word, list_joined, network_joined, matched_joined, unmatched_joined, out_joined}
 
 -- the words are the line's, which keeps its rules
@@ -111,6 +112,21 @@ network_back count (prefix ∷ list ∷ n ∷ set ∷ t ∷ []) l h =
 network_back count _ l h = absurd cc
 
 -- ---- entries
+
+-- by what is behind the list
+entry_back : (count : ℕ) (word k list n : List ℕ) (ws : List (List ℕ)) (behind : Figure → Result Line LineFault) (l : MapLine) → entry k list n behind ≡ Ok l → IsNumbered l
+    → ((m : Figure) (number : Option ℕ) (x : Line) → list ≡ codes "list" → number_of n ≡ Ok m → behind m ≡ Ok x → (k ≡ class_number_text number) × IsClassNumber number
+    → Says count (word ∷ k ∷ list ∷ n ∷ ws) (Entry number x))
+    → Says count (word ∷ k ∷ list ∷ n ∷ ws) l
+entry_back count word k list n ws behind l h is says =
+    let f = bind_ok (number_of k) _ l h in
+    let w = bind_ok (is_word (codes "list") list) _ l f.2 in
+    let m = bind_ok (number_of n) _ l w.2 in
+    let x = bind_ok (behind m.0) _ l m.2 in
+    let c = bind_ok (class_number f.0) _ l x.2 in
+    let same : Entry c.0 x.0 ≡ l = ok_same (Entry c.0 x.0) l c.2 in
+    let said = number_said k f.0 c.0 f.1 c.1 (entry_there c.0 x.0 (subst IsNumbered (sym same) is)) in
+    subst (Says count (word ∷ k ∷ list ∷ n ∷ ws)) same (says m.0 c.0 x.0 (word_back (codes "list") list w.0 w.1) m.1 x.1 said)
 
 -- an entry behind the words of its number and its list
 matched_back : (count : ℕ) (k list n : List ℕ) (f : Figure) (ws : List (List ℕ)) (number : Option ℕ) (l : Line) → list ≡ codes "list" → number_of n ≡ Ok f → matched count f ws ≡ Ok l

@@ -19,6 +19,12 @@ use Rattle.routing_law.proofs.Unique.{unique}
 pub is_with_tag : (g : Graph) (tag : ℕ → Tag) (x : LineRoute) (y : Route) → Same g tag x y → x ≡ with_tag g tag y
 is_with_tag g tag x y s = λ i. record { path = s.path_is i; tag = s.tag_is i; pref = s.pref_is i }
 
+-- the full order is the same
+pub lines_no_later : (w : Setup) (tag : ℕ → Tag) (a b : Route) (x y : LineRoute) → Same w.graph tag x a → Same w.graph tag y b → NoLater w a b → LinesNoLater w.net x y
+lines_no_later w tag a b x y e f n =
+    subst (λ z. LinesNoLater w.net z y) (sym (is_with_tag w.graph tag x a e)) (subst (LinesNoLater w.net (with_tag w.graph tag a))
+    (sym (is_with_tag w.graph tag y b f)) (record { higher = n.number; fewer = n.fewer; lower = n.lower }))
+
 pub no_later : (w : Setup) (tag : ℕ → Tag) (a b : Route) (x y : LineRoute) → Same w.graph tag x a → Same w.graph tag y b → LinesNoLater w.net x y → NoLater w a b
 no_later w tag a b x y e f n = back (subst (λ z. LinesNoLater w.net z (with_tag w.graph tag b)) (is_with_tag w.graph tag x a e) (subst (LinesNoLater w.net x) (is_with_tag w.graph tag y b f) n))
   where

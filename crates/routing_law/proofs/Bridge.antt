@@ -41,6 +41,17 @@ module _ (w : Setup) (tag : ℕ → Tag) (c : Lines) (r : LineRoutes) (written :
       by true l = l
       by false l = let e = sym (stable.dead u ro l) ∙ h in absurd (cc)
 
+  -- of a route that was chosen
+  chosen_behind : (u t : ℕ) (z : LineRoute) → w.net.router u ≡ true → w.net.origin u ≡ false → r u ≡ Some z → (g : Given w tag (with_nodes w r) u t z) → Behind w tag (with_nodes w r) u z
+  chosen_behind u t z ro o h g = record {
+    rest = t ∷ g.rest;
+    node = g.node;
+    has = node_is w r u z (u ∷ t ∷ g.rest) g.node o ro h g.begins g.runs;
+    begins = g.begins;
+    runs = g.runs;
+    tag_is = g.tag_is;
+  }
+
   -- given that the routes from which z can come are those of the graph
   by_origin : (u v : ℕ) (z : LineRoute) → w.net.router u ≡ true → r u ≡ Some z → c.exported u v z.tag ≡ true
       → ((t : ℕ) (y : LineRoute) → z.path ≡ u ∷ y.path → w.net.router t ≡ true → r t ≡ Some y → c.exported t u y.tag ≡ true → Behind w tag (with_nodes w r) t y) → Behind w tag (with_nodes w r) u z

@@ -3,9 +3,9 @@ use Rattle.std.proofs.Common.{◌≡◌, ℕ, ◌<◌, ◌≤◌, Bool, true, fa
 use Rattle.std.proofs.lemmas.Bool.{and_parts, or_right}
 use Rattle.routing_law.specs.Graph.{AtLeast, WellFormed, run}
 use Rattle.routing_law.specs.Laws.{GraphNodeIsReached, GraphNumberIsGreatest}
-use Rattle.routing_law.specs.Network.{stands_on, survives}
+use Rattle.routing_law.specs.Network.{chooses, stands_on, survives}
 use Rattle.routing_law.specs.Outcome.{Route, Routes, Setup, Stable}
-use Rattle.routing_law.proofs.Heard.{chooses_from, own_from}
+use Rattle.routing_law.proofs.Heard.{chooses_from, heard_from, own_from}
 use Rattle.routing_law.proofs.Rules.{Everywhere, everywhere}
 use Rattle.routing_law.proofs.Runs.{node_below, run_more, run_passes, run_place, stands_split}
 use Rattle.routing_law.proofs.Sound.{Backed, backed, sound, sound_of}
@@ -33,6 +33,14 @@ module _ (w : Setup) (r : Routes) (wf : WellFormed w.net w.graph) (s : Stable w 
     s.own v (wf.start_origin v n h) ∙ own_from w v n l h,
     record { known = (wf.start_below v n h).1; other = (wf.start_below v n h).1; place = refl; number = omega arith },
   )
+
+  -- the neighbour's route is heard
+  over_heard : (v u m' n : ℕ) (y : Route) → chooses w.net w.alive v ≡ true → w.graph.place n ≡ v → n < w.graph.nodes → r u ≡ Some y
+      → w.alive.carries u v ≡ true → stands_on v y.path ≡ false → w.graph.next y.node v ≡ Some m' → w.graph.number n ≤ w.graph.number m'
+      → Over w r v n
+  over_heard v u m' n y c p nb h k off st le =
+      let b = s.best v u (record { path = v ∷ y.path; node = m' }) c (heard_from w r v u y m' h k off st) in
+      (b.0, b.1, record { known = known_of w wf r (backed w r s) v b.0 b.1; other = nb; place = place_of w wf r (backed w r s) v b.0 b.1 ∙ sym p; number = omega (arith, b.2) })
 
   -- the neighbour's route passes v already
   over_passed : Everywhere w.net w.graph → (v u m n : ℕ) (y : Route) → w.net.router v ≡ true → w.graph.place n ≡ v → r u ≡ Some y

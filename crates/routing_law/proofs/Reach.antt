@@ -1,5 +1,5 @@
 -- Which nodes are reached by surviving steps, and the best of them at each location.
-use Rattle.std.proofs.Common.{◌≡◌, ℕ, zero, suc, ◌<◌, ◌≤◌, true, ◌&&◌, ◌⊎◌, inl, inr, List, [], ◌∷◌, Option, Some, None, eqb, refl, ap, ◌∙◌, subst, arith}
+use Rattle.std.proofs.Common.{◌≡◌, ℕ, zero, suc, ◌<◌, ◌≤◌, true, ◌&&◌, ◌⊎◌, inl, inr, List, [], ◌∷◌, Option, Some, None, eqb, refl, sym, ap, ◌∙◌, subst, arith}
 use Rattle.std.specs.Option.{option_and_then}
 use Rattle.std.proofs.lemmas.Bool.{and_parts, and_from, or_cases, or_left, or_right, cases_lt, eqb-true, eq-eqb, false≢true}
 use Rattle.routing_law.specs.Graph.{WellFormed, run}
@@ -85,6 +85,10 @@ module _ (f : Marks) (measure : ℕ → ℕ) (n : ℕ) where
   top_marked : (o : Option ℕ) → IsHighest f measure n o → (i : ℕ) → o ≡ Some i → f i ≡ true
   top_marked None h i e = absurd (cc)
   top_marked (Some k) h i e = let x : k ≡ i = cc in subst (λ j. f j ≡ true) x h.1
+
+  top_over : (o : Option ℕ) → IsHighest f measure n o → (j : ℕ) → j < n → f j ≡ true → (i : ℕ) × (o ≡ Some i) × (measure j ≤ measure i)
+  top_over None h j l e = absurd (false≢true (sym (h j l) ∙ e))
+  top_over (Some k) h j l e = (k, refl, h.2 j l e)
 
 abbrev tops_at : (w : Setup) → WellFormed w.net w.graph → (time : ℕ) → Within w.graph.nodes (reached w (suc time)) (reached w time) → Tops w
 tops_at w wf time rests = record {

@@ -5,10 +5,10 @@ use Rattle.std.proofs.lemmas.Bool.{and_parts}
 use Rattle.std.proofs.lemmas.Option.{same_Some}
 use Rattle.list_law.proofs.Options.{option_and_then_parts, unless_parts, when_parts}
 use Rattle.routing_law.specs.Graph.{run}
-use Rattle.routing_law.specs.Laws.{GoodOffer, GoodRoute, LinesAreRight, NumberIsGreatest, PlainNumbersPass, UsedPathsAreSound}
+use Rattle.routing_law.specs.Laws.{GoodOffer, GoodRoute, LinesAreRight, NumberIsGreatest, PlainNumbersPass, Sound, UsedPathsAreSound}
 use Rattle.routing_law.specs.Lines.{LineRoute, LineRoutes, Lines, LinesStable, Tag, offered, offered_of}
 use Rattle.routing_law.specs.Network.{Alive, loop_free, stands_on, survives}
-use Rattle.routing_law.specs.Outcome.{Route, Same, Setup, Stable, with_nodes}
+use Rattle.routing_law.specs.Outcome.{Route, Routes, Same, Setup, Stable, with_nodes}
 use Rattle.routing_law.specs.Spells.{Written}
 use Rattle.routing_law.proofs.Bridge.{graph_stable, live_of, same_routes, tied_nodes}
 use Rattle.routing_law.proofs.Heard.{chooses_from}
@@ -36,6 +36,20 @@ offered_parts alive c r u p q h =
     let e = when_parts (c.exported u p b.0.tag) (cond (stands_on p b.0.path) None (Some (p ∷ b.0.path))) q b.2 in
     let f = unless_parts (stands_on p b.0.path) (Some (p ∷ b.0.path)) q e.1 in
     (b.0, a.0, b.1, e.0, f.0, sym (same_Some (p ∷ b.0.path) q f.1))
+
+-- a route that is good in the graph is good
+module _ (w : Setup) (tag : ℕ → Tag) where
+  good_route : (s : Routes) (v : ℕ) (x : LineRoute) (y : Route) → Sound w s v y → Same w.graph tag x y → GoodRoute w tag v x
+  good_route s v x y a e = record {
+    rest = a.rest;
+    begins = e.path_is ∙ a.begins;
+    free = ap loop_free e.path_is ∙ a.free;
+    lives = ap (survives w.alive) e.path_is ∙ a.lives;
+    node = y.node;
+    runs = ap (run w.graph) e.path_is ∙ a.runs;
+    tag_is = e.tag_is;
+    pref_is = e.pref_is;
+  }
 
 module _ (w : Setup) (tag : ℕ → Tag) (c : Lines) (r : LineRoutes) (written : Written w.net w.graph tag c) (stable : LinesStable w.net w.alive c r) where
   graph : Stable w (with_nodes w r)

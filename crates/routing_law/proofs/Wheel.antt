@@ -8,7 +8,7 @@ use Rattle.routing_law.specs.Outcome.{Route, Routes, Setup, heard}
 use Rattle.routing_law.specs.Settling.{Tops}
 use Rattle.routing_law.proofs.Heard.{chooses_from, chooses_parts, heard_from, own_from}
 use Rattle.routing_law.proofs.Highest.{known_of, place_of}
-use Rattle.routing_law.proofs.Rules.{AllRouters, Everywhere, all_more, along}
+use Rattle.routing_law.proofs.Rules.{AllRouters, Everywhere, all_more, along, no_growth}
 use Rattle.routing_law.proofs.Runs.{first_lives, follow_append, follow_more, node_below, place_below, run_more, run_place, stands_split, start_is}
 use Rattle.routing_law.proofs.Saturate.{comes_again}
 use Rattle.routing_law.proofs.Sound.{Backed, Origin, Taken, how, sound_of}
@@ -174,6 +174,18 @@ module _ (w : Setup) (wf : WellFormed w.net w.graph) (ev : Everywhere w.net w.gr
       } in
       let h = along wf ev a.way c.0 a.entry (spin s i).left.top a.routers high a.runs in
       (h.0, (c.1.0 ++ a.way, follow_append w.graph c.1.0 a.way (arc s k).entry c.0 h.0 c.1.1 h.1), h.2)
+
+  wheel_at : (s : Spoke w r t) (i j : ℕ) → i < j → (spin s i).at ≡ (spin s j).at → ⊥
+  wheel_at s i zero l same = omega arith
+  wheel_at s i (suc k) l same =
+      let b = arc s k in
+      let c = comes s (k - i) i k (omega arith) in
+      let at : w.graph.place c.0 ≡ (spin s i).at = c.2.place ∙ (top_is (spin s i)).1 in
+      let ro : w.net.router (w.graph.place c.0) ≡ true = ap w.net.router at ∙ (chooses_parts w (spin s i).at (spin s i).left.chooses).0 in
+      let le = no_growth wf ev b.entry c.0 b.known (b.place ∙ sym same ∙ sym at) ro c.1 in
+      let tops_same : (spin s i).left.top ≡ b.left.top = cc ((spin s i).left.is_top, b.left.is_top, ap t.top same) in
+      let low : w.graph.number b.entry < w.graph.number (spin s i).left.top = subst (λ n. w.graph.number b.entry < w.graph.number n) (sym tops_same) b.low in
+      omega (arith, le, low, c.2.number)
 
   pub wheel : (v : ℕ) → Left w r t v → ⊥
   wheel v l =

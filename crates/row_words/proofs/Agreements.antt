@@ -49,6 +49,12 @@ one_sided_none true false h = absurd cc
 one_sided_none false true h = absurd cc
 one_sided_none false false h = (refl, refl)
 
+agreeing : (rows : List Row) → AreRows rows → list_any is_lost rows ≡ false → list_any is_gained rows ≡ false → clash_somewhere rows ≡ false → Agree rows
+agreeing rows are lost gained clash = record {
+  common = λ row at. kind_of row.old row.new (are row at) (never is_lost rows row lost at) (never is_gained rows row gained at);
+  ordered = λ one other at_one at_other. never (clashes one) rows other (never (λ row. list_any (clashes row) rows) rows one clash at_one) at_other;
+}
+
 pub to_agree : (rows : List Row) → AreRows rows → words_of rows ≡ None → Agree rows
 to_agree rows are h = elim (cases_Bool (list_any is_common rows)) [
   | inl some ↦ (

@@ -85,6 +85,19 @@ module _ (n : ℕ) (few : n ≤ 96) where
 
 -- ---- prefixes
 
+five_short : (a b c d e : List ℕ) → length a ≤ 3 → length b ≤ 3 → length c ≤ 3 → length d ≤ 3 → length e ≤ 3
+    → length (a ++ codes "." ++ b ++ codes "." ++ c ++ codes "." ++ d ++ codes "/" ++ e) ≤ 19
+five_short a b c d e p q r s t =
+    let one = length-append a (codes ".") in
+    let two = length-append (a ++ codes ".") b in
+    let three = length-append (a ++ codes "." ++ b) (codes ".") in
+    let four = length-append (a ++ codes "." ++ b ++ codes ".") c in
+    let five = length-append (a ++ codes "." ++ b ++ codes "." ++ c) (codes ".") in
+    let six = length-append (a ++ codes "." ++ b ++ codes "." ++ c ++ codes ".") d in
+    let seven = length-append (a ++ codes "." ++ b ++ codes "." ++ c ++ codes "." ++ d) (codes "/") in
+    let eight = length-append (a ++ codes "." ++ b ++ codes "." ++ c ++ codes "." ++ d ++ codes "/") e in
+    omega (arith, p, q, r, s, t, one, two, three, four, five, six, seven, eight)
+
 prefix_short : (p : PlainPrefix) → p.bits < 2 ^ 32 → p.len < 1000 → length (prefix_text p) ≤ 19
 prefix_short p wide len =
     five_short (decimal (p.bits / 16777216)) (decimal (p.bits / 65536 % 256)) (decimal (p.bits / 256 % 256)) (decimal (p.bits % 256)) (decimal p.len)

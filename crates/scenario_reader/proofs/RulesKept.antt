@@ -1,5 +1,5 @@
 -- The fault that is told has the least number of a rule that is broken.
-use Rattle.std.proofs.Common.{◌≡◌, ℕ, ◌+◌, List, [], ◌∷◌, Option, Some, None, Result, Ok, Err, Bool, true, not, refl, sym, ap, ap₂, ◌∙◌}
+use Rattle.std.proofs.Common.{◌≡◌, ℕ, ◌+◌, List, [], ◌∷◌, Option, Some, None, Result, Ok, Err, Bool, true, not, refl, sym, ap, ap₂, ◌∙◌, map}
 use Rattle.std.specs.Prelude.{⊤, IsTrue, ◌||◌, option_map}
 use Rattle.std.specs.List.{list_any, position, AllByRecursion}
 use Rattle.std.specs.Result.{result_ok}
@@ -14,7 +14,7 @@ use Rattle.scenario_reader.specs.declared.parts.Field.{Field}
 use Rattle.scenario_reader.specs.declared.parts.Field.TheVariants as field
 use Rattle.net_base.proofs.StepLemmas.{bind_ok, err_same, ok_not_err, ok_same, or_fault_ok, or_fault_result_ok}
 use Rattle.net_base.proofs.StepOutcomes.{bind_case, each_from-breaks}
-use Rattle.json_values.specs.TextRules.{is_known}
+use Rattle.json_values.specs.TextRules.{is_known, KeepsBelow}
 use Rattle.json_values.proofs.EachStep.{each_from-keeps}
 use Rattle.json_values.proofs.FirstRule.{below_3, broken, next, Outcome}
 use Rattle.json_values.proofs.StepFaults.{name_err, name_ok, read_err}
@@ -23,7 +23,7 @@ use Rattle.scenario_reader.specs.declared.fault.ScenarioFault.{ScenarioFault}
 use Rattle.scenario_reader.specs.declared.fault.ScenarioFault.TheVariants.{Unknown, NoLink, NotPeerLink, BadPrefix}
 use Rattle.scenario_reader.specs.Faults.{number_of}
 use Rattle.scenario_reader.specs.Laws.{are_known, passes, rules, HasPrefix, NamesAreKnown}
-use Rattle.scenario_reader.specs.Rules.{both_located, is_session, judged, links_known, located, no_fault, sessions_known}
+use Rattle.scenario_reader.specs.Rules.{both_located, is_session, judged, links_known, located, no_fault, sessions_known, set_of_all, turned}
 use Rattle.location_names.specs.Names.{names_of}
 use Rattle.scenario_reader.specs.Shape.{each, Ends, Said}
 
@@ -124,6 +124,11 @@ module _ (net : PlainNet) where
 
 -- ---- one rule after the other
 
+-- the rules behind the names
+located_outcome : (net : PlainNet) (said : Said) (dead : List ℕ) (links pairs : List (ℕ × ℕ)) → AllAt net said.dead_links links
+    → AllAt net said.silent pairs → KeepsBelow (rules net said) 4 → (y : Result Scenario ScenarioFault)
+    → (links_known net links >>= (λ _. sessions_known net pairs >>= (λ _. or_fault BadPrefix (result_ok (prefix_spelled said.prefix)) >>= (λ prefix.
+    Ok (record { prefix = prefix; dead = set_of_all dead; dead_links = links; silent = map (turned net) pairs }))))) ≡ y → Outcome (rules net said) number_of y
 unfolding links_known sessions_known
 located_outcome net said dead links pairs at others below y h =
     bind_case (Outcome (rules net said) number_of y) (links_known net links) _ y h

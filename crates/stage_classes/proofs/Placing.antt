@@ -86,6 +86,21 @@ module _ (p : PlainPrefix) (lawful : IsPrefix p) where
           by true e = absurd (false≢true (sym off ∙ (of_common p lawful before seen class b e).0))
           by false e = refl
 
+  off_row : (first : ℕ) (class : List PlainPattern) (before new : List (List PlainPattern)) (rest : List Cell) → some_contains class p ≡ false
+      → pair_in (row first class before new ++ rest) ≡ pair_in rest
+  off_row first class before new rest off =
+      ap pair_in (append_assoc (with_classes first class before [] new) (cell_if first (length new + 1) (common before new class (everything ∷ []))) rest)
+      ∙ off_classes first class before [] new (cell_if first (length new + 1) (common before new class (everything ∷ [])) ++ rest) off
+      ∙ step first (length new + 1) (common before new class (everything ∷ [])) rest
+      ∙ ap (λ x. if x then Some (first, length new + 1) else pair_in rest) off_rest
+    where
+      off_rest : some_contains (common before new class (everything ∷ [])) p ≡ false
+      off_rest = by (some_contains (common before new class (everything ∷ [])) p) refl
+        where
+          by : (x : Bool) → some_contains (common before new class (everything ∷ [])) p ≡ x → x ≡ false
+          by true e = absurd (false≢true (sym off ∙ (of_common p lawful before new class (everything ∷ []) e).0))
+          by false e = refl
+
   -- ---- a class that has it, where none before has
 
   -- the cell of the class that is found, or what the rest has
@@ -123,6 +138,25 @@ module _ (p : PlainPrefix) (lawful : IsPrefix p) where
           ∙ later e
           ∙ ap (λ k. found_at first (class_from bs p k) (pair_in rest)) next
           ∙ sym (ap (λ x. found_at first (if x then Some (length seen + 1) else class_from bs p (length seen + 1 + 1)) (pair_in rest)) e)
+
+  on_row : (first : ℕ) (class : List PlainPattern) (before new : List (List PlainPattern)) (rest : List Cell) → some_contains class p ≡ true → IsNowhere p before
+      → pair_in (row first class before new ++ rest) ≡ Some (first, unwrap_or (class_from new p 1) (length new + 1))
+  on_row first class before new rest on none_before =
+      ap pair_in (append_assoc (with_classes first class before [] new) (cell_if first (length new + 1) (common before new class (everything ∷ []))) rest)
+      ∙ on_classes first class before [] new (cell_if first (length new + 1) (common before new class (everything ∷ [])) ++ rest) on none_before refl
+      ∙ by (class_from new p 1) refl
+    where
+      by : (o : Option ℕ) → class_from new p 1 ≡ o
+          → found_at first (class_from new p 1) (pair_in (cell_if first (length new + 1) (common before new class (everything ∷ [])) ++ rest)) ≡ Some (first, unwrap_or (class_from new p 1) (length new + 1))
+      by None e =
+          ap (λ o. found_at first o (pair_in (cell_if first (length new + 1) (common before new class (everything ∷ [])) ++ rest))) e
+          ∙ step first (length new + 1) (common before new class (everything ∷ [])) rest
+          ∙ ap (λ x. if x then Some (first, length new + 1) else pair_in rest)
+          (all_common p lawful before new none_before (nowhere_all new 1 e) class (everything ∷ []) on (some_everything p lawful))
+          ∙ sym (ap (λ o. Some (first, unwrap_or o (length new + 1))) e)
+      by (Some second) e =
+          ap (λ o. found_at first o (pair_in (cell_if first (length new + 1) (common before new class (everything ∷ [])) ++ rest))) e
+          ∙ sym (ap (λ o. Some (first, unwrap_or o (length new + 1))) e)
 
   abbrev row_at : Option ℕ → Option (ℕ × ℕ) → List (List PlainPattern) → Option (ℕ × ℕ)
   row_at None rest new = rest

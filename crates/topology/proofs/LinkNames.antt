@@ -4,7 +4,7 @@ use Rattle.std.proofs.Common.{arith, ltb-true, ltb-false, eq-eqb, true≢false}
 use Rattle.std.specs.Prelude.{⊤, IsTrue, ◌==◌, nat_lt, nat_le, if◌then◌else◌, position, ◌↔◌}
 use Rattle.std.specs.List.{list_any, position_or_len, AllByRecursion, IsDistinct}
 use Rattle.std.specs.Str.{bytes_eq}
-use Rattle.std.proofs.lemmas.Bool.{eqb-true, leb-false, leb-true, and_parts}
+use Rattle.std.proofs.lemmas.Bool.{eqb-false, eqb-true, leb-false, leb-true, and_parts}
 use Rattle.std.proofs.lemmas.List.{map-append, length-map}
 use Rattle.std.proofs.lemmas.List.Folds.{list_any_at}
 use Rattle.std.proofs.lemmas.List.Quantifiers.{position-Some}
@@ -38,6 +38,37 @@ ordered_orders i j = by (nat_lt i j) refl
 
 ordered_is : (i j : ℕ) (p : ℕ × ℕ) → ordered i j ≡ p → Orders i j p
 ordered_is i j p is = rw (← is) (ordered_orders i j)
+
+same_pairs : (i j k l : ℕ) (p q : ℕ × ℕ) → Orders i j p → Orders k l q → same_ends p q ≡ ((i == k && j == l) || (i == l && j == k))
+same_pairs i j k l p q a b = same_tests _ _ there back
+  where
+    there : same_ends p q ≡ true → ((i == k && j == l) || (i == l && j == k)) ≡ true
+    there h =
+        let e = and_parts (p.0 == q.0) (p.1 == q.1) h in
+        let x = eqb-true p.0 q.0 e.0 in
+        let y = eqb-true p.1 q.1 e.1 in
+        by (i == k) refl x y
+      where
+        by : (t : Bool) → (i == k) ≡ t → p.0 ≡ q.0 → p.1 ≡ q.1 → ((t && j == l) || (i == l && j == k)) ≡ true
+        by true e x y = let f = eqb-true i k e in rw (eq-eqb j l (omega (arith, x, y, f, a.1, b.1))) refl
+        by false e x y =
+            let f = eqb-false i k e in
+            rw (eq-eqb i l (omega (arith, x, y, f, a.0, a.1, a.2, b.0, b.1, b.2)), eq-eqb j k (omega (arith, x, y, f, a.0, a.1, a.2, b.0, b.1, b.2))) refl
+
+    back : ((i == k && j == l) || (i == l && j == k)) ≡ true → same_ends p q ≡ true
+    back h = by (i == k && j == l) refl h
+      where
+        by : (t : Bool) → (i == k && j == l) ≡ t → (t || (i == l && j == k)) ≡ true → same_ends p q ≡ true
+        by true e h =
+            let f = and_parts (i == k) (j == l) e in
+            let x = eqb-true i k f.0 in
+            let y = eqb-true j l f.1 in
+            rw (eq-eqb p.0 q.0 (omega (arith, x, y, a.0, a.1, a.2, b.0, b.1, b.2)), eq-eqb p.1 q.1 (omega (arith, x, y, a.0, a.1, a.2, b.0, b.1, b.2))) refl
+        by false e h =
+            let f = and_parts (i == l) (j == k) h in
+            let x = eqb-true i l f.0 in
+            let y = eqb-true j k f.1 in
+            rw (eq-eqb p.0 q.0 (omega (arith, x, y, a.0, a.1, a.2, b.0, b.1, b.2)), eq-eqb p.1 q.1 (omega (arith, x, y, a.0, a.1, a.2, b.0, b.1, b.2))) refl
 
 same_ends_of : (i j : ℕ) (p : ℕ × ℕ) → Orders i j p → (p.0 == p.1) ≡ (i == j)
 same_ends_of i j p a = same_tests _ _ (λ h. let x = eqb-true p.0 p.1 h in eq-eqb i j (omega (arith, x, a.1, a.2))) (λ h. let x = eqb-true i j h in eq-eqb p.0 p.1 (omega (arith, x, a.1, a.2)))

@@ -27,7 +27,7 @@ use Rattle.topology.specs.declared.fault.TopoFault.{TopoFault}
 use Rattle.topology.specs.declared.fault.TopoFault.TheVariants.{LinkTwice, SelfLink, PeerLink}
 use Rattle.topology.specs.declared.parts.Kind.{Kind}
 use Rattle.topology.specs.declared.parts.Kind.TheVariants as kind
-use Rattle.topology.specs.Rules.{no_fault, counted, names_differ, numbers_differ, named, site_of, names_of, joined, links_differ, ends_differ, routers_linked}
+use Rattle.topology.specs.Rules.{ascending, no_fault, counted, names_differ, numbers_differ, named, site_of, names_of, joined, links_differ, ends_differ, routers_linked}
 use Rattle.topology.specs.Rules.{links_of, judged, is_lawful_as}
 use Rattle.topology.specs.Shape.{Entry, Ends, Topology, each, entry_of, ends_of, identifier_of, shape_of}
 use Rattle.topology.specs.Topology.{spelled}
@@ -160,6 +160,7 @@ module _ (net : PlainNet) (distinct : IsDistinct bytes_eq (map (λ (s : Site). s
 never_there : {A : Type 0} (f : ℕ → TopoFault) (p : A → Bool) (xs : List A) → AllByRecursion (λ x. p x ≡ false) xs → no_fault (option_map f (position p xs)) ≡ Ok tt
 never_there f p xs a = ap (λ o. no_fault (option_map f o)) (none_from (position p xs) (λ i e. list_any_breaks p xs (list_any-at_position p xs i e) a))
 
+links_differ_kept : (ls : List (ℕ × ℕ)) → IsDistinct same_ends ls → links_differ ls ≡ Ok tt
 unfolding links_differ
 links_differ_kept ls d =
     nothing_told _ (λ e h. (all_unlike-breaks (λ (p : ℕ × ℕ). p) same_ends same_ends-swap (λ place _ _. LinkTwice place) (λ _. ⊤) (λ _ _ _. tt) [] ls e h).0
@@ -181,6 +182,8 @@ router_ends n (l ∷ ls) a = (by (nat_le n l.0) refl, router_ends n ls a.1)
     by true e = absurd (omega (arith, a.0, leb-true n l.0 e))
     by false e = refl
 
+links_kept : (names : List (List ℕ)) (routers : ℕ) (es : List Ends) (ls : List (ℕ × ℕ)) → each_from (joined names) 1 es ≡ Ok ls → IsDistinct same_ends ls
+    → AllByRecursion (λ (l : ℕ × ℕ). l.0 < l.1) ls → AllByRecursion (λ (l : ℕ × ℕ). l.0 < routers) ls → links_of names routers es ≡ Ok (ascending ls)
 unfolding links_of ends_differ routers_linked
 links_kept names routers es ls joins d less routed =
     rw (

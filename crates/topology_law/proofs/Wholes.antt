@@ -57,6 +57,7 @@ no_point w r all h =
 -- an exponent that is there has digits
 module _ (w r ds : List ℕ) (all : All w) (k : ℕ) (digits : AreDigits ds) (none : prefix_len is_ascii_digit r ≡ 0) (marks : has_exponent (w ++ r) (length w) ≡ true)
     (starts : exponent_start (w ++ r) (length w) ≡ length w + k) (rest : drop k r ≡ ds) where
+  has_digits : is_integer (scan (w ++ r)) ≡ true → ⊥
   unfolding scan
   has_digits h =
       let s = w ++ r in

@@ -1,9 +1,9 @@
 -- The ways of two graphs as they are put one behind the other.
-use Rattle.std.proofs.Common.{◌≡◌, ◌∙◌, ◌+◌, ◌++◌, ℕ, List, length, map}
+use Rattle.std.proofs.Common.{◌≡◌, ◌∙◌, ◌+◌, ◌++◌, ℕ, List, ap, append_assoc, length, map, subst, sym}
 use Rattle.std.specs.List.{IsDistinct}
 use Rattle.std.specs.List.Sorted.{IsPermutation}
-use Rattle.std.proofs.lemmas.List.Sorted.{Contains-permutation}
-use Rattle.std.proofs.lemmas.List.Sorted.{IsPermutation-map, IsPermutation-sym}
+use Rattle.std.proofs.lemmas.List.Sorted.{Contains-permutation, IsPermutation-append, IsPermutation-append_comm, IsPermutation-append_left, IsPermutation-append_right}
+use Rattle.std.proofs.lemmas.List.Sorted.{IsPermutation-map, IsPermutation-sym, IsPermutation-trans}
 use Rattle.std.proofs.lemmas.Map.Keys.{IsDistinct-IsPermutation}
 use Rattle.list_law.specs.Members.{IsIn}
 use Rattle.list_law.proofs.Members.{Contains-from_IsIn, IsIn-from_Contains}
@@ -29,6 +29,18 @@ gathered t g one two three four size root after first second third fourth at_siz
     let more : three ≡ (map (step_way t 0) t.steps ++ map (step_way g (length t.nodes)) g.steps) ++ map (start_way t 0 (both_sizes t g)) t.starts
     = third ∙ λ i. pair i ++ map (start_way t 0 (at_root i)) t.starts in
     fourth ∙ λ i. more i ++ map (start_way g (at_size i) (at_after i)) g.starts
+
+-- four lists in another order
+moved_lists : {X : Type 0} (a b c d : List X) → IsPermutation ((a ++ b) ++ (c ++ d)) (((b ++ d) ++ a) ++ c)
+moved_lists a b c d =
+    let swapped : IsPermutation ((a ++ b) ++ (c ++ d)) ((b ++ a) ++ (d ++ c))
+    = IsPermutation-append (a ++ b) (b ++ a) (c ++ d) (d ++ c) (IsPermutation-append_comm a b) (IsPermutation-append_comm c d) in
+    let inner : IsPermutation (b ++ ((a ++ d) ++ c)) (b ++ ((d ++ a) ++ c))
+    = IsPermutation-append_right b ((a ++ d) ++ c) ((d ++ a) ++ c) (IsPermutation-append_left c (a ++ d) (d ++ a) (IsPermutation-append_comm a d)) in
+    let from : (b ++ a) ++ (d ++ c) ≡ b ++ ((a ++ d) ++ c) = append_assoc b a (d ++ c) ∙ ap (λ l. b ++ l) (sym (append_assoc a d c)) in
+    let to : b ++ ((d ++ a) ++ c) ≡ ((b ++ d) ++ a) ++ c = ap (λ l. b ++ l) (append_assoc d a c) ∙ sym (append_assoc b d (a ++ c)) ∙ sym (append_assoc (b ++ d) a c) in
+    IsPermutation-trans ((a ++ b) ++ (c ++ d)) ((b ++ a) ++ (d ++ c)) (((b ++ d) ++ a) ++ c) swapped
+    (subst (λ l. IsPermutation l (((b ++ d) ++ a) ++ c)) (sym from) (subst (IsPermutation (b ++ ((a ++ d) ++ c))) to inner))
 
 moved : (t g : PlainGraph) → IsPermutation (ways_of_both t g) (laid t g)
 moved t g =

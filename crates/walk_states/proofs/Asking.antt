@@ -1,10 +1,11 @@
 -- The standings that were reached and asked where walks go on from them.
-use Rattle.std.proofs.Common.{◌≡◌, ℕ, zero, suc, ◌+◌, ◌<◌, ◌≤◌, List, [], ◌∷◌, ◌++◌, map, take, length, get_or, Some, inl, inr, refl, sym, ap, subst, ◌∙◌, append_assoc, arith}
+use Rattle.std.proofs.Common.{◌≡◌, ℕ, zero, suc, ◌+◌, ◌<◌, ◌≤◌, List, [], ◌∷◌, ◌++◌, map, take, length, get_or, Some, inl, inr, refl, sym, ap, subst, ◌∙◌, append_assoc, length-take-le, arith}
 use Rattle.std.specs.Prelude.{All, filter, slice_get, ◌&&◌, ◌||◌}
 use Rattle.std.specs.List.{flat_map, AllByRecursion, IsDistinct}
 use Rattle.std.proofs.lemmas.Bool.{cases_lt, cond_both, false≢true}
-use Rattle.std.proofs.lemmas.List.{append-nil}
-use Rattle.std.proofs.lemmas.Option.{slice_get_within}
+use Rattle.std.proofs.lemmas.Grind.{flat_map-append}
+use Rattle.std.proofs.lemmas.List.{append-nil, take_more, take-append-le}
+use Rattle.std.proofs.lemmas.Option.{slice_get_within, get_or_from_slice_get}
 use Rattle.list_law.proofs.Each.{AllByRecursion-filter}
 use Rattle.list_law.proofs.Items.{slice_get-append_left}
 use Rattle.net_base.specs.Network.{PlainNet, is_router, linked}
@@ -18,7 +19,7 @@ use Rattle.walk_states.specs.Table.{Key}
 use Rattle.net_base.proofs.NumbersBelow.{numbers-below}
 use Rattle.walk_states.proofs.Below.{made-at}
 use Rattle.walk_states.proofs.SameStandings.{Among}
-use Rattle.walk_states.proofs.Gathering.{among-append, among-left, among-right, gathered-distinct, gathered-extends, gathered-new}
+use Rattle.walk_states.proofs.Gathering.{among-append, among-left, among-right, gathered-among, gathered-append, gathered-distinct, gathered-extends, gathered-new}
 use Rattle.walk_states.proofs.Numbering.{key-at, slice_get-standings_in}
 use Rattle.walk_states.proofs.Stepping.{gathered-nil, steps_to-kept}
 
@@ -62,8 +63,47 @@ steps_over-kept next xs more (y ∷ ys) k inside =
     ap (λ l. l ++ steps_over next (xs ++ more) (k + 1) ys) (steps_to-kept xs more k (next y) (λ t h. inside t (among-left t (next y) (flat_map next ys) h)))
     ∙ ap (λ l. steps_to xs k (next y) ++ l) (steps_over-kept next xs more ys (k + 1) (λ t h. inside t (among-right t (next y) (flat_map next ys) h)))
 
+steps_over-one : (next : Standing → List Standing) (all : List Standing) (k : ℕ) (x : Standing) → steps_over next all k (x ∷ []) ≡ steps_to all k (next x)
 unfolding steps_over
 steps_over-one next all k x = append-nil (steps_to all k (next x))
+
+-- one more standing is asked
+pub asked-more : (starts : List Standing) (next : Standing → List Standing) (xs ys : List Standing) (steps further : List (ℕ × ℕ)) (k : ℕ) (x : Standing)
+    → AreAsked starts next xs steps k → slice_get xs k ≡ Some x → ys ≡ gathered xs (next x) → further ≡ steps ++ steps_to ys k (next x)
+    → AreAsked starts next ys further (k + 1)
+asked-more starts next xs ys steps further k x a at grown stepped = record {
+  reached = subst (AreReached starts next) (sym grown) (reached-more starts next xs (next x) k x a.reached at (λ t h. h));
+  order = grown ∙ ap (λ l. gathered l (next x)) a.order
+      ∙ sym (gathered-append starts (flat_map next (take k xs)) (next x))
+      ∙ ap (gathered starts) (sym asked);
+  numbered = stepped ∙ ap (λ l. l ++ steps_to ys k (next x)) (a.numbered ∙ sym kept)
+      ∙ ap (λ l. steps_over next ys 0 (take k xs) ++ l) (sym (steps_over-one next ys k x))
+      ∙ sym (steps_over-append next ys (take k xs) (x ∷ []) 0 k (counted (length-take-le k xs short)))
+      ∙ ap (steps_over next ys 0) (sym front);
+}
+  where
+    counted : length (take k xs) ≡ k → k ≡ 0 + length (take k xs)
+    counted e = omega (arith, e)
+
+    short : k ≤ length xs
+    short = omega (arith, slice_get_within xs k x at)
+
+    front : take (k + 1) ys ≡ take k xs ++ x ∷ []
+    front =
+        let ext = gathered-extends xs (next x) in
+        ap (take (k + 1)) (grown ∙ ext.1)
+        ∙ take-append-le (k + 1) xs ext.0 (omega (arith, slice_get_within xs k x at))
+        ∙ take_more xs k x (slice_get_within xs k x at)
+        ∙ ap (λ y. take k xs ++ y ∷ []) (get_or_from_slice_get xs k x x at)
+
+    asked : flat_map next (take (k + 1) ys) ≡ flat_map next (take k xs) ++ next x
+    asked = ap (flat_map next) front ∙ flat_map-append next (take k xs) (x ∷ []) ∙ ap (λ l. flat_map next (take k xs) ++ l) (append-nil (next x))
+
+    kept : steps_over next ys 0 (take k xs) ≡ steps_over next xs 0 (take k xs)
+    kept =
+        let ext = gathered-extends xs (next x) in
+        ap (λ l. steps_over next l 0 (take k xs)) (grown ∙ ext.1)
+        ∙ steps_over-kept next xs ext.0 (take k xs) 0 (λ t h. subst (λ l. Among l t) (sym a.order) (gathered-among starts (flat_map next (take k xs)) t h))
 
 -- none is asked yet
 pub asked-start : (next : Standing → List Standing) (xs : List Standing) → IsDistinct same_standing xs → AreAsked xs next xs [] 0

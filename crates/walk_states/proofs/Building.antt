@@ -152,6 +152,10 @@ graph-inside net plan xs steps a few =
       steps = subst (λ n. AllByRecursion (Inside n) (steps_from net plan xs 0 xs)) (sym size) (inside-from net plan xs xs 0 (omega arith) targets_among);
     }
 
+starts-are : (net : PlainNet) (es : List Expression) (from : FromSet) (case : Case) (first : List Standing) (left : List Expression)
+    → first ≡ map (moved left) (filter (holds case.origins) (in_order net)) → left ≡ start_of (locations net) es → first ≡ starts net (plan_of es from case)
+starts-are net es from case first left h e = h ∙ ap (λ l. map (moved l) (filter (holds case.origins) (in_order net))) e
+
 -- where the first state is the statement's own
 pub begun-starts : (net : PlainNet) (es : List Expression) (from : FromSet) (case : Case) (first : List Standing) (ss given : List (List Expression))
     → first ≡ map (moved (left_in ss 0)) (filter (holds case.origins) (in_order net)) → ss ≡ given → slice_get given 0 ≡ Some (start_of (locations net) es)

@@ -64,6 +64,9 @@ module _ (net : PlainNet) (plan : Plan) where
         earlier = s.earlier;
       }
 
+  standings-begin : (xs : List Standing) → AreStandings net plan xs → (k : ℕ) (x : Standing) → slice_get (starts net plan) k ≡ Some x → Among xs x
+  standings-begin xs s k x h = subst (λ l. Among l x) (sym (found-all xs s)) (start-found xs x (among-slice_get (starts net plan) k x h))
+
   -- what is reached is among the standings
   reached-among : (m : ℕ) (xs ys : List Standing) → AreReached (starts net plan) (targets net plan) xs → AreStandings net plan ys
       → (k : ℕ) (x : Standing) → k < m → slice_get xs k ≡ Some x → Among ys x

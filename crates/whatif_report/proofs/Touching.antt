@@ -12,7 +12,7 @@ use Rattle.net_base.specs.Sets.{holds}
 use Rattle.net_base.proofs.Links.{joins_ends}
 use Rattle.config_base.specs.declared.route.Route.{Route}
 use Rattle.outcome_base.specs.Outcomes.{Failures, Outcome, is_dead, is_dead_link, is_live, is_silent, route_at}
-use Rattle.scenarios.proofs.RouteTests.{is_route-refl}
+use Rattle.scenarios.proofs.RouteTests.{is_route-is, is_route-refl}
 use Rattle.impact_law.specs.Cuts.{is_cut, with_cut}
 use Rattle.impact_law.specs.declared.impact.Cut.{Cut}
 use Rattle.impact_law.specs.declared.impact.Cut.TheVariants.{Link, Router}
@@ -24,6 +24,12 @@ use Rattle.whatif_report.specs.Shifting.{Covers, over_link, touches}
 same_held-refl : (o : Option Route) → same_held o o ≡ true
 same_held-refl None = refl
 same_held-refl (Some h) = is_route-refl (Some h) h refl
+
+same_held-is : (g h : Option Route) → same_held g h ≡ true → g ≡ h
+same_held-is None None same = refl
+same_held-is None (Some h) same = absurd (cc)
+same_held-is (Some g) None same = absurd (cc)
+same_held-is (Some g) (Some h) same = is_route-is (Some g) h same
 
 -- who holds the same isn't moved
 pub stays_put : (cut : Cut) (outcome : Outcome) (r : ℕ) → is_moved cut outcome outcome r ≡ false

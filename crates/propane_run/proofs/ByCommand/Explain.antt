@@ -8,18 +8,32 @@ use Rattle.run_base.specs.declared.outcome.Status.{Status}
 use Rattle.run_base.specs.declared.outcome.Status.TheVariants.{Done, NoMemory}
 use Rattle.run_base.specs.Reading.{Holds, SaidOfTold}
 use Rattle.run_base.specs.Said.{Said, text, Whole, Delivered}
+use Rattle.run_base.proofs.Jobs.{out_is}
 use Rattle.run_base.proofs.Sent.{Gives, text_sent}
 use Rattle.input_texts.specs.Texts.{Alone}
-use Rattle.input_texts.proofs.Asking.{alone, said_for, told_says}
+use Rattle.input_texts.proofs.Asking.{alone, net_of_spelled, policy_of_spelled, said_for, told_says}
 use Rattle.compile_jobs.specs.Explained.{SaysOfPolicy}
+use Rattle.compile_jobs.proofs.Compiling.{never_refused}
 use Rattle.propane_run.specs.declared.command.Command.TheVariants.{Explain}
 use Rattle.propane_run.specs.Asked.{AsksFor}
 use Rattle.propane_run.specs.Explaining.{ExplainsRight}
 use Rattle.propane_run.specs.Run.{Comes, Job}
 use Rattle.propane_run.specs.Words.{names_read}
 use Rattle.propane_run.proofs.Asking.{asks_for, spells}
+use Rattle.propane_run.proofs.Compilation.{compilation}
 
 module _ {S : Type 0} (holds : Holds) (words : List (List ℕ)) (taken : S → Option (List ℕ)) (before now : S) (b : List ℕ) (written : Whole taken b before now) where
+  explains_of : (net : PlainNet) (policy : PlainPolicy) → AsksFor holds words Explain net policy → SaysOfPolicy net policy (text b) → ExplainsRight holds taken words before now
+  explains_of net policy asks (inl h) =
+      let spell = spells holds words Explain net policy asks in
+      record {
+        net = net;
+        policy = policy;
+        asked = asks;
+        says = inl (record { made = compilation net policy h.0 h.1 (net_of_spelled spell) (policy_of_spelled spell) h.2; free = never_refused net policy h.0 h.1 h.2 }, rw (out_is _ _ h.3) at written);
+      }
+  explains_of net policy asks (inr h) = record { net = net; policy = policy; asked = asks; says = inr (h.0, h.1, rw (out_is _ _ h.2) at written) }
+
   pub right : Comes holds words Explain (text b) → ExplainsRight holds taken words before now
   right comes =
       let f = said_for (Alone SaysOfPolicy) holds (names_read words Explain) (text b) (λ x. cc) comes.bytes comes.held comes.says in

@@ -3,6 +3,8 @@ use Rattle.std.proofs.Common.{◌≡◌, ℕ, List, Option, Ok, inl, inr, sym, s
 use Rattle.net_base.specs.Network.{PlainNet}
 use Rattle.policy_base.specs.Policies.{PlainPolicy}
 use Rattle.claim_law.specs.Claim.{IsKeptAtWork}
+use Rattle.claim_law.proofs.Claim.{passing_evidence_keeps_policy, passing_evidence_keeps_it_at_work}
+use Rattle.text_law.proofs.Configurations.{spellings_are_texts}
 use Rattle.config_text.specs.Spelled.{Spells}
 use Rattle.evidence_base.specs.Made.{PlainCaseEvidence}
 use Rattle.policy_parser.specs.Spelled.{spelled as policy_spelled}
@@ -25,7 +27,7 @@ use Rattle.propane_run.specs.Headline.{CompilesRight, GivesEvidence}
 use Rattle.propane_run.specs.Pairs.{ArePair}
 use Rattle.propane_run.specs.Run.{Comes}
 use Rattle.propane_run.specs.Words.{names_read}
-use Rattle.propane_run.proofs.Asking.{asks_for}
+use Rattle.propane_run.proofs.Asking.{asks_for, names_two}
 use Rattle.propane_run.proofs.Compilation.{compilation}
 
 module _ {S : Type 0} (holds : Holds) (words : List (List ℕ)) (taken : S → Option (List ℕ)) (before now : S) (b : List ℕ) (written : Whole taken b before now) where
@@ -34,6 +36,26 @@ module _ {S : Type 0} (holds : Holds) (words : List (List ℕ)) (taken : S → O
   Claimed =
       (claim : CompilesRight holds taken words before now) × (evidence : List PlainCaseEvidence) × IsCompiled claim.net claim.policy claim.config evidence
       × AsksFor holds words Compile claim.net claim.policy × Spells claim.bytes claim.config × IsKeptAtWork claim.net claim.policy claim.config
+
+  claim_of : Comes holds words Compile (text b) → (net : PlainNet) (policy : PlainPolicy) → SpellFor holds (names_read words Compile) net policy → SaysOfPart part.Config net policy (text b) → Claimed
+  claim_of comes net policy spell (inr h) = absurd (let s = status_is _ _ h.2 in cc)
+  claim_of comes net policy spell (inl h) = (
+    record {
+      net = net;
+      policy = policy;
+      asked = names_two holds words net policy comes.is spell;
+      bytes = h.2;
+      written = rw (out_is _ _ h.5) at written;
+      config = h.0;
+      text = spellings_are_texts h.2 h.0 h.4;
+      keeps = passing_evidence_keeps_policy net policy h.0 h.1 (net_of_spelled spell) (policy_of_spelled spell) h.3.1;
+    },
+    h.1,
+    h.3,
+    asks_for holds words Compile net policy comes.is spell,
+    h.4,
+    passing_evidence_keeps_it_at_work net policy h.0 h.1 (net_of_spelled spell) (policy_of_spelled spell) h.3.1,
+  )
 
   pub compiled : Comes holds words Compile (text b) → Claimed
   compiled comes =
