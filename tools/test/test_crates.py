@@ -4,7 +4,17 @@ import unittest
 from common import tool
 
 CRATES = tool("crates")
-HEAD = "//! Routes as lists: what they hold. There is no code\n//! here.\n//!\n//! Why so.\n//!\n//! {}\n//!\n//! It knows nothing of maps, and of texts.\n\npub mod a;\n"
+HEAD = """//! Routes as lists: what they hold. There is no code
+//! here.
+//!
+//! Why so.
+//!
+//! {}
+//!
+//! It knows nothing of maps, and of texts.
+
+pub mod a;
+"""
 
 # Who needs a crate, by its head and in its row.
 USERS = [
