@@ -1,4 +1,4 @@
-"""tools/named: what the pages name is there, and a name that is gone has a line; every crate has its row in docs/ARCHITECTURE.md."""
+"""tools/named: what the pages name is there, and a name that is gone has a line."""
 import os
 import re
 import unittest
@@ -37,20 +37,10 @@ GONE = [
     ("`IsWrongBy`", "no IsWrongBy"),
     ("`gone_links`", "no gone_links"),
     ("| Crate | Holds |\n|---|---|\n| `net_base` | a |\n| `nets` | b |", "no crate nets"),
+    ("| Crate | Promises | Names |\n|---|---|---|\n| [`net_base`](docs) | a | `Net` (`new`), `nets` |", "no nets in net_base"),
     ("| Script | For |\n|---|---|\n| `believed`, `doubted` | a |", "no tools/doubted"),
 ]
 
-
-def crates_of(page):
-    """The crates that have a row in the tables of a page."""
-    rows, heading, before = [], "", ""
-    for line in NAMED.text_of(page).splitlines():
-        if line.startswith("|") and not before.startswith("|"):
-            heading = line.split("|")[1].strip()
-        elif line.startswith("| `") and heading == "Crate":
-            rows += NAMED.SPAN.findall(line.split("|")[1])
-        before = line
-    return rows
 
 # Where the kit of the last proof is named, and what stands in front of it.
 KITS = [
@@ -105,11 +95,6 @@ class Names(unittest.TestCase):
             with open(os.path.join(TOP, path), encoding="utf-8") as file:
                 told[path] = re.search(text + r"(rattle-kit-\w+)", file.read()).group(1)
         self.assertEqual(len(set(told.values())), 1, told)
-
-    def test_every_crate_has_a_row(self):
-        rows = crates_of("docs/ARCHITECTURE.md")
-        self.assertEqual(sorted(NAMED.crates() - set(rows)), [], "crates without a row")
-        self.assertEqual(sorted({it for it in rows if rows.count(it) > 1}), [], "crates with two rows")
 
 
 if __name__ == "__main__":

@@ -9,6 +9,7 @@ from gate import packages
 TOOLS = os.path.join(TOP, "tools")
 MYPY, PYFLAKES = {"mypy": "mypy"}, {"pyflakes3": "pyflakes3"}
 TYPED = ("texts", "deploying", "laboratory", "reasons", "words", "gate", "opening", "reports", "expecting", "exchange", "watching", "rolling")  # the packages with types
+SCRIPTS = ("crates",)  # the scripts with types that are in no package
 UNTRIED = "Whether the types of the scripts fit, and whether they name what isn't there, was not tried."
 
 
@@ -40,8 +41,9 @@ class Types(unittest.TestCase):
         needed(MYPY)
         with tempfile.TemporaryDirectory() as cache:
             words = [word for name in TYPED for word in ("-p", name)]
-            status, said, wrong = ended(["mypy", "--config-file", "mypy.ini", "--cache-dir", cache, *words], cwd=TOOLS, timeout=600)
-        self.assertEqual((status, wrong), (0, ""), said)
+            for these in words, SCRIPTS:
+                status, said, wrong = ended(["mypy", "--config-file", "mypy.ini", "--cache-dir", cache, *these], cwd=TOOLS, timeout=600)
+                self.assertEqual((status, wrong), (0, ""), said)
 
     def test_pyflakes(self):
         needed(PYFLAKES)

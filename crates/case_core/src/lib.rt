@@ -9,8 +9,9 @@
 //!
 //! One automaton serves all cases of a statement. It is lent to each case and given back with the states that the case found
 //! (`case_graph_over`), so the next case looks these up. Between its cases it waits in `KeptAutomata`, since cases of two
-//! statements may alternate. It is made anew once the graphs that it served have had 4,096 nodes together, so it never holds
-//! more states than two cases may find. That all automata of a policy together hold few states is reckoned by hand, and no
+//! statements may alternate. It serves only a case whose statement has its number. It is made anew once the graphs that it
+//! served have had 4,096 nodes together, so it never holds more states than two cases may find. Expressions are kept of one
+//! statement alone, since those of all may be too large to hold. That all automata of a policy together hold few states is reckoned by hand, and no
 //! clause says it.
 //!
 //! `graph_within_limits` is what `case_graph` does before it judges the sources: `lint` asks the limits and no more, and so

@@ -8,5 +8,5 @@
 //!
 //! Compiling doesn't need it.
 //!
-//! It knows nothing of all else.
+//! It knows nothing of anything else.
 #![tactic(auto)]

@@ -2,7 +2,8 @@
 //! it comes to is written.
 //!
 //! A command is a job, and a job is a function of bytes. `read_all` reads the names of a command in order, by one loop
-//! whatever the command is, before the first text is judged; the first reading that fails ends the run. So no job is generic
+//! whatever the command is, before the first text is judged; the first reading that fails ends the run. The line about a name
+//! that can't be read is made before it is read, so that it can be told where no memory is left. So no job is generic
 //! over its inputs, and what reading leaves is proved once. A job gives a text or a `Stop`. Then `deliver` does all writing,
 //! in one place: a text goes to the output, and so does the line of a verdict that fails; any other line goes to the error
 //! output; and a write that fails isn't made again. Nothing is written before all is known.

@@ -1,4 +1,4 @@
-//! What a policy text means and what the text of a configuration is, in the few words of the claim, with the laws that what
+//! What a policy text means and what the text of a configuration is, in the few words of the claim; with the laws that what
 //! is read and written is just that. There is no code here.
 //!
 //! `specs/PolicyText` says what a policy text means: one grammar, in each rule of which the value stands beside what is
