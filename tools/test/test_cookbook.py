@@ -1,4 +1,4 @@
-"""The pages of docs/cookbook: what their tables say of a run is what the run is to write, and of a try what its policy says."""
+"""The pages of docs/cookbook: what their tables say of a run is what the run is to write, and what they quote stands in the file."""
 import glob
 import os
 import re
@@ -22,8 +22,8 @@ def run_of(name):
 
 
 def tables(page):
-    """The tables of a page, each as its rows of cells; the second row, of dashes, is left out."""
-    for block in re.findall(r"(?:^\|.*\n)+", text_of(page), re.MULTILINE):
+    """The tables of a page's text, each as its rows of cells; the second row, of dashes, is left out."""
+    for block in re.findall(r"(?:^\|.*\n)+", page, re.MULTILINE):
         rows = [[cell.strip() for cell in line[1:-1].split("|")] for line in block.splitlines()]
         yield [rows[0], *rows[2:]]
 
@@ -47,23 +47,23 @@ def outcome(lines):
 
 def has(text, pieces):
     """Whether these pieces stand in a text one after another, however its words are spaced."""
-    at, text = 0, " ".join(text.split())
-    for piece in pieces:
-        at = text.find(piece.strip(), at) + len(piece.strip())
-        if at < len(piece.strip()):
+    text, at = " ".join(text.split()), 0
+    for piece in map(str.strip, pieces):
+        at = text.find(piece, at)
+        if at < 0:
             return False
+        at += len(piece)
     return True
 
 
 class Cookbook(unittest.TestCase):
     def setUp(self):
-        pages = sorted(glob.glob(os.path.join(TOP, "docs", "cookbook", "*.md")))
-        self.tables = [(os.path.basename(page), table) for page in pages for table in tables(page)]
+        self.pages = {os.path.basename(path): text_of(path) for path in sorted(glob.glob(os.path.join(TOP, "docs", "cookbook", "*.md")))}
 
     def test_replays(self):
         """Each column of a table of replays is the run to which its heading leads, and says all of it."""
         count = 0
-        for page, (heading, *rows) in self.tables:
+        for page, (heading, *rows) in [(page, table) for page, text in self.pages.items() for table in tables(text)]:
             for place, cell in enumerate(heading):
                 link = LINK.fullmatch(cell)
                 if link:
@@ -72,22 +72,17 @@ class Cookbook(unittest.TestCase):
                         count += 1
         self.assertGreater(count, 50)
 
-    def test_tries(self):
-        """A policy has what a table quotes of it, and a run the line."""
-        count = 0
-        for page, table in self.tables:
-            for row in table[1:]:
-                for words, path in LINK.findall(" ".join(row)):
-                    code = CODE.fullmatch(words)
-                    if code:
-                        with self.subTest(page, path=path):
-                            text = text_of(os.path.join(EXAMPLE, path))
-                            self.assertTrue(has(text, code[1].split("..")), code[1])
-                            count += 1
-        self.assertGreater(count, 40)
+    def test_quotes(self):
+        """A link whose words are code quotes its file: a part of a policy, or a line that a run is to write."""
+        links = [(page, CODE.fullmatch(words), path) for page, text in self.pages.items() for words, path in LINK.findall(text)]
+        quotes = [(page, code[1], path) for page, code, path in links if code]
+        for page, quote, path in quotes:
+            with self.subTest(page, path=path):
+                self.assertTrue(has(text_of(os.path.join(EXAMPLE, path)), quote.split("..")), quote)
+        self.assertGreater(len(quotes), 40)
 
     def test_each_policy_has_a_recipe(self):
-        told = "".join(map(text_of, [*glob.glob(os.path.join(TOP, "docs", "cookbook", "*.md")), os.path.join(TOP, "docs", "COOKBOOK.md")]))
+        told = "".join([*self.pages.values(), text_of(os.path.join(TOP, "docs", "COOKBOOK.md"))])
         for path in glob.glob(os.path.join(EXAMPLE, "*.propane")):
             with self.subTest(os.path.basename(path)):
                 self.assertIn(f"examples/cookbook/{os.path.basename(path)})", told)
