@@ -82,7 +82,7 @@ class Repairs:
         """What is to be known of them."""
         alone = [f"What is given up is told for case {self.case} alone."] if self.repairs and self.case else []
         poor = [f"Left out, as rank 1 goes to nobody or a source loses its path: {self.left_out}."] if self.left_out else []
-        return [*poor, "docs/COOKBOOK.md has the habits, and more forms.", *alone]
+        return [*poor, "docs/LANGUAGE.md has the habits, and docs/COOKBOOK.md more forms.", *alone]
 
     def lines(self) -> Iterator[str]:
         yield from ("", self.head(), *self.notes())

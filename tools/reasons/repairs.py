@@ -1,4 +1,4 @@
-"""Repairs of a statement that can't be kept, as the habits of docs/COOKBOOK.md say them. They are guesses: each has to be tried.
+"""Repairs of a statement that can't be kept, as the habits of docs/LANGUAGE.md say them. They are guesses: each has to be tried.
 
 A maker takes a setting and yields what a statement could read in place of the refused one, as pairs of what was done and the
 statement. What it is sent back gives the refusal of that statement, or is none where it compiles.

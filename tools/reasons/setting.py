@@ -1,4 +1,4 @@
-"""What makers of repairs are given, and the words for what they do: the habits of docs/COOKBOOK.md."""
+"""What makers of repairs are given, and the words for what they do: the habits of docs/LANGUAGE.md."""
 from __future__ import annotations
 
 from collections.abc import Callable, Generator, Iterable

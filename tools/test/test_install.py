@@ -2,8 +2,11 @@
 import os
 import re
 import shutil
+import signal
+import subprocess
 import tempfile
 import unittest
+import urllib.request
 
 from common import PROGRAM, TOP, ended
 
@@ -71,11 +74,26 @@ class Install(unittest.TestCase):
         recheck = [os.path.join(self.prefix, "bin", "propane-recheck"), *TWO]
         texts = [os.path.join(EXAMPLE, name) for name in ("compile.stdout", "evidence.stdout")]
         self.assertEqual(ended([*recheck, *texts], env=environment), (0, "holds\n", ""))
+        self.assertEqual(ended([os.path.join(self.prefix, "bin", "propane-shut"), "--help"], env=environment)[0], 0)
         expected = os.path.join(self.room.name, "expected")
         with open(expected, "w", encoding="utf-8") as file:
             file.write("198.51.100.0/24: R1 rank 1\n")
         status, said, _ = ended([os.path.join(self.prefix, "bin", "propane-expect"), *TWO, expected], env=environment)
         self.assertEqual((status, said.splitlines()[-1]), (0, "expectations 1 failed 0: asked replay 1 whatif 0"))
+
+    def test_page(self):
+        """The page of a network is served by what is installed, and an interrupt ends it."""
+        words = [os.path.join(self.prefix, "bin", "propane"), "open", *TWO]
+        with subprocess.Popen(words, stdin=subprocess.DEVNULL, stdout=subprocess.PIPE, env={"PATH": os.environ["PATH"]}, text=True) as page:
+            try:
+                address = page.stdout.readline().split()[-1]
+                for name in "", "main.js", "forms.css":
+                    with urllib.request.urlopen(address + name, timeout=60) as answer:
+                        self.assertEqual(answer.status, 200)
+            finally:
+                page.send_signal(signal.SIGINT)
+                page.stdout.read()
+        self.assertEqual(page.returncode, 0)
 
     def test_links(self):
         """Each link of an installed page leads to what is installed."""

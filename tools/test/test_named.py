@@ -70,7 +70,7 @@ class Names(unittest.TestCase):
         self.assertFalse(found, "\n" + "\n".join(found))
 
     def test_script(self):
-        page = os.path.join("docs", "REFUTATIONS.md")
+        page = os.path.join("docs", "REFUSALS.md")
         self.assertEqual(ended([TOOL, os.path.join(TOP, page)]), (0, "tools/named: 1 pages, all that they name is there\n", ""))
         self.assertEqual(ended([TOOL, "NONE.md"])[0], 1)
 

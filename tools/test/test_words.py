@@ -224,7 +224,7 @@ class Words(unittest.TestCase):
         status, _, lines = self.said("compile", os.path.join(ring, "topology.json"), os.path.join(ring, "policy.propane"))
         self.assertEqual(status, 1)
         self.ask(lines, "3:1", None, "Case 1: this statement, for 10.0.1.0/24, from D.")
-        self.assertIn("REFUTATIONS.md", lines[-1])
+        self.assertTrue(lines[-1].endswith('REFUSALS.md, "Why a router can\'t".'), lines[-1])
 
     def test_findings(self):
         """Behind a report of `lint` each statement that it names is shown once, with what is found of it."""

@@ -165,7 +165,7 @@ def refused(line: str, kinds: Sequence[str], texts: Mapping[int, Text], evidence
     def case_of(number: int) -> tuple[Case, Statement] | None:
         return refusals.case_at(policy, number, [*known[0], *known[1]], evidence_of) if policy and known else None
 
-    return refusals.hint(word, values, case_of, policy).seeing("REFUTATIONS.md" if word == "no-evidence" else "REFUSALS.md")
+    return refusals.hint(word, values, case_of, policy).seeing("REFUSALS.md", "Why a router can't" if word == "no-evidence" else "The refusals")
 
 
 def of_texts(status: int, line: str, command: str, kinds: Sequence[str], texts: Mapping[int, Text],
