@@ -61,7 +61,7 @@ class Watch(unittest.TestCase):
 
         def watcher(daemon):
             words = {"R1": {"bird": [fake, self.home("R1")]}, "R2": {daemon: [fake, self.home("R2")]}}
-            return Watcher(network, Recorder(topology, network, read_routers(json.dumps(words), network), [PREFIX], work),
+            return Watcher(network, Recorder(network, read_routers(json.dumps(words), network), [PREFIX], work),
                            Auditor.compiled(PROGRAM, topology, policy, work))
 
         self.watcher, self.with_openbgpd = watcher("frr"), watcher("openbgpd")
