@@ -13,6 +13,16 @@ RUN = os.path.join(TOP, "tools", "run")
 EXAMPLE = os.path.join(TOP, "examples", "two-exits")
 WORDS = ["settle", *(os.path.join(EXAMPLE, name) for name in ("topology.json", "policy.propane", "flap-begins.json"))]
 OVER = "\r\x1b[K"  # what comes before a line that is written over
+# The program, whose `settle` takes some seconds more, or two more than it takes until `waiting` has told that no message waits.
+SLOW = """#!/bin/sh
+case $1,$MORE in
+settle,rest) until [ -e "$TMPDIR/quiet" ]; do sleep 0.1; done; sleep 2; rm "$TMPDIR/quiet" ;;
+settle,*) sleep "$MORE" ;;
+waiting,rest) "$SLOWED" "$@" > "$TMPDIR/said" && cat "$TMPDIR/said" && ! grep -q "^quiet yes" "$TMPDIR/said" || touch "$TMPDIR/quiet"
+    rm "$TMPDIR/said"; exit ;;
+esac
+exec "$SLOWED" "$@"
+"""
 
 
 class Settling(unittest.TestCase):
@@ -23,10 +33,10 @@ class Settling(unittest.TestCase):
         self.program, self.temporary = os.path.join(self.folder, "slow"), os.path.join(self.folder, "tmp")
         os.mkdir(self.temporary)
         with open(self.program, "w", encoding="utf-8") as file:
-            file.write('#!/bin/sh\n[ "$1" != settle ] || sleep "$SECONDS_MORE"\nexec "$PROGRAM_THAT_IS_SLOW" "$@"\n')
+            file.write(SLOW)
         os.chmod(self.program, 0o755)
         clean = {key: value for key, value in os.environ.items() if key != "PROPANE_HINTS"}
-        self.environment = clean | {"TERM": "xterm", "PROGRAM_THAT_IS_SLOW": PROGRAM, "SECONDS_MORE": "4.5", "TMPDIR": self.temporary}
+        self.environment = clean | {"TERM": "xterm", "SLOWED": PROGRAM, "MORE": "rest", "TMPDIR": self.temporary}
 
     def shown(self, *words, after=None, **environment):
         """The status of a run, what it wrote, and what the terminal showed; after some seconds an interrupt comes, or none."""
@@ -66,15 +76,15 @@ class Settling(unittest.TestCase):
 
     def test_other_runs(self):
         """Nothing is shown of a run that is short, of another command, without a terminal that can, and where no words are wanted."""
-        for words, environment in (WORDS, {"SECONDS_MORE": "0"}), (WORDS, {"TERM": "dumb"}), (WORDS, {"PROPANE_HINTS": "off"}):
+        for words, environment in (WORDS, {"MORE": "0"}), (WORDS, {"TERM": "dumb"}), (WORDS, {"PROPANE_HINTS": "off"}):
             with self.subTest(environment):
-                self.assertEqual(self.shown(*words, **environment), (0, ended([PROGRAM, *words])[1], [""]))
-        status, _, said = self.shown(*WORDS[:3], os.path.join(self.folder, "absent"))
+                self.assertEqual(self.shown(*words, **{"MORE": "1.5"} | environment), (0, ended([PROGRAM, *words])[1], [""]))
+        status, _, said = self.shown(*WORDS[:3], os.path.join(self.folder, "absent"), MORE="0")
         self.assertEqual((status, said[-1].split("\r\n")[0]), (4, f"propane: cannot read {self.folder}/absent"))
 
     def test_interrupt(self):
         """An interrupt ends it, and nothing of it is left."""
         began = time.monotonic()
-        status, out, said = self.shown(*WORDS, after=2.5, SECONDS_MORE="60")
+        status, out, said = self.shown(*WORDS, after=2.5, MORE="60")
         self.assertEqual((status, out, said[-1]), (-signal.SIGINT, "", ""))
         self.assertLess(time.monotonic() - began, 30)
