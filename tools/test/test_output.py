@@ -132,6 +132,9 @@ class Output(unittest.TestCase):
         self.assertEqual(ended([RUN, PROGRAM, "compile", *reversed(TWO)], env=people), (3, "", "propane: topology 1 not-json\n"))
         self.assertTrue(os.path.exists(log))
         self.assertEqual(ended([RUN, self.stub("cat; exit 3"), "x"], env=people, input="read\n", stdin=None), (3, "read\n", ""))
+        for closed, wanted in (">&-", (5, "", "")), ("<&-", (0, self.wanted, "")), ("2>&-", (0, self.wanted, "")):
+            words = ["sh", "-c", f'exec "$@" {closed}', "sh", RUN, PROGRAM, "compile", *TWO]
+            self.assertEqual(ended(words, env=people), wanted, closed)
 
     def test_plain(self):
         """Without it the program stands in the place of the script, and its outputs are its own."""
