@@ -1,4 +1,5 @@
 """What the gate's scripts share: tools/check and tools/lab-check.
 
     packages     programs of Debian's that the gate needs, installed where that may be done
+    kept         runs that ended as wanted, so that a list of them goes on where it was broken off
 """

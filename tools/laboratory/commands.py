@@ -1,10 +1,14 @@
 """Runs other programs, and waits, never without a bound."""
 from __future__ import annotations
 
+import functools
 import os
 import subprocess
 import time
 from collections.abc import Callable, Collection
+
+from reasons.program import found
+from texts.faults import Ended
 
 TOOLS = os.path.dirname(os.path.dirname(os.path.abspath(__file__)))
 SLOW = 300  # seconds after which a program that answers at once elsewhere counts as stuck
@@ -27,9 +31,18 @@ def ran(*words: str, status: Collection[int] = (0,)) -> str:
     return done.stdout
 
 
+@functools.cache
+def program() -> str:
+    """The program that the variable PROGRAM names, or that ./propane runs. It is looked for once, since the lab asks it often."""
+    try:
+        return found()
+    except Ended as ended:
+        raise Broken(ended.line) from ended
+
+
 def propane(*words: str, status: Collection[int] = (0,)) -> str:
-    """Runs the program that the variable PROGRAM names, or ./propane."""
-    return ran(os.environ.get("PROGRAM") or os.path.join(TOOLS, "..", "propane"), *words, status=status)
+    """Runs the program."""
+    return ran(program(), *words, status=status)
 
 
 def until(happened: Callable[[], bool], what: str, limit: float = SLOW) -> None:

@@ -9,7 +9,8 @@ import shutil
 import signal
 import socket
 import subprocess
-from typing import Any
+from collections.abc import Iterator
+from typing import Any, TextIO
 
 from .commands import SLOW, Broken, ran, read, until, write
 
@@ -106,8 +107,29 @@ class Bird(Daemon):
         self.spawn("bird", "bird.ctl", "bird", "-f", "-c", file, "-s", self.path("bird.ctl"), "-P", self.path("bird.pid"))
 
     def ask(self, *words: str) -> str:
-        """What BIRD answers: `Network not found` is an answer too, though birdc's status is 1 then."""
-        return ran("birdc", "-s", self.path("bird.ctl"), *words, status=(0, 1))
+        """What BIRD answers, as birdc shows it, on the socket over which birdc asks: birdc itself takes far longer to begin."""
+        with socket.socket(socket.AF_UNIX) as daemon:
+            daemon.settimeout(SLOW)
+            daemon.connect(self.path("bird.ctl"))
+            with daemon.makefile("rw", encoding="utf-8", errors="replace", newline="\n") as lines:
+                shown = [*self.said(lines)]
+                lines.write(" ".join(words) + "\n")
+                lines.flush()
+                shown += self.said(lines)
+        return "".join(f"{line}\n" for line in shown)
+
+    def said(self, lines: TextIO) -> Iterator[str]:
+        """The lines of one thing that BIRD says. Each has a code of four digits in front, or a blank where the one before has the same code;
+        behind the code of the last one stands a blank, and 0000 has nothing to show."""
+        for line in (each.rstrip("\n") for each in lines):
+            if line.startswith(" "):
+                yield line[1:]
+                continue
+            if not line.startswith("0000"):
+                yield line[5:]
+            if line[4:5] != "-":
+                return
+        raise Broken(f"{self.space}: BIRD says no more")
 
     def configure(self, file: str) -> None:
         said = self.ask("configure", f'"{file}"')

@@ -2,15 +2,15 @@
 from __future__ import annotations
 
 import os
-import subprocess
 from collections.abc import Collection, Iterator, Mapping
 from dataclasses import dataclass, field
 from typing import Optional, Union
 
 from deploying.plans import Ties
+from texts import recorded
 from texts.scenario import Scenario
 
-from .commands import SLOW, TOOLS, propane, write
+from .commands import propane, write
 from .network import Network
 from .peers import WRONG
 
@@ -54,7 +54,7 @@ def compare(network: Network, texts: Texts, scenario: Scenario, folder: str) -> 
     network.record(folder, scenario.prefix)
     path, tables = os.path.join(folder, "scenario.json"), os.path.join(folder, "tables.json")
     write(path, scenario.text())
-    told, faults = held_by(texts, network.inputs.described.choices.ties, path, tables, folder)
+    told, faults = held_by(network, texts, path, tables, folder)
     paths, offers = told_by(told)
     peers = [(peer, router.name) for peer in network.live_peers() for router in network.topology.neighbours(peer)]
     hops = next_hops(network, texts, paths, path)
@@ -62,22 +62,21 @@ def compare(network: Network, texts: Texts, scenario: Scenario, folder: str) -> 
     return Answer(faults, len(paths), len(peers), len(network.sending_routers()), hops)
 
 
-def held_by(texts: Texts, ties: Ties, scenario: str, tables: str, folder: str) -> tuple[str, list[str]]:
+def held_by(network: Network, texts: Texts, scenario: str, tables: str, folder: str) -> tuple[str, list[str]]:
     """What all is to be, and what an audit finds wrong with the routes that were recorded in the folder.
 
     Where ties are broken as the program's reports have it, all is to be as a replay tells. Else any stable outcome is right: the one
     that the audit tells, if it is one."""
     replay = propane("replay", texts.topology, texts.policy, scenario)
     write(os.path.join(folder, "replay.txt"), replay)
-    made = subprocess.run([os.path.join(TOOLS, "tables"), texts.topology, folder], stdin=subprocess.DEVNULL, capture_output=True, text=True,
-                          timeout=SLOW, check=False)
-    if made.returncode:
-        return replay, [made.stderr.strip()]
-    write(tables, made.stdout)
+    try:
+        write(tables, recorded.tables(network.topology, folder))
+    except recorded.Unknown as why:
+        return replay, [f"tables: {why}"]
     audit = propane("audit", texts.topology, texts.policy, texts.config, texts.evidence, scenario, tables, status=(0, 7))
     write(os.path.join(folder, "audit.txt"), audit)
     verdict, _, outcome = audit.partition("\n")
-    if verdict == "stable" and ties is Ties.OLDEST:
+    if verdict == "stable" and network.inputs.described.choices.ties is Ties.OLDEST:
         return outcome, []
     return replay, list(different(replay, audit))
 

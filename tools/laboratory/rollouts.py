@@ -11,8 +11,6 @@ import contextlib
 import json
 import os
 import shutil
-import subprocess
-import sys
 import threading
 import time
 from collections.abc import Iterator, Sequence
@@ -23,10 +21,11 @@ from deploying.maps import Tag
 from rolling.loading import keep, load
 from rolling.stages import Rollout, Stage, is_still
 from rolling.walking import tag_along
+from texts.recorded import Unknown, tables
 from texts.scenario import Scenario
 from watching.routers import Router
 
-from .commands import TOOLS, Broken
+from .commands import Broken
 from .daemons import Bird
 from .network import Network
 from .packets import target
@@ -37,7 +36,7 @@ from .wire import Wire
 
 NOTHING = Scenario("")
 FIRST = 30_000  # the first port from which packets are sent
-LOOK = 1.0  # seconds between two looks at what is held
+LOOK = 0.5  # seconds between two looks at what is held
 HALF_WAY = 0.4  # seconds after a failure in which nobody has settled yet
 THERE = (Stage.ONE, Stage.TWO, Stage.NEW)
 BACK = (Stage.TWO, Stage.ONE, Stage.OLD)
@@ -72,11 +71,13 @@ class Rolling:
     # ---- what is seen
 
     def tables(self, prefix: str, folder: str) -> dict[str, Any]:
-        """The route of each router."""
+        """The route of each router; none where an answer isn't one, as that of a daemon that just begins."""
         shutil.rmtree(folder, ignore_errors=True)
         self.network.record(folder, prefix)
-        ran = subprocess.run([sys.executable, os.path.join(TOOLS, "tables"), self.sides[Stage.OLD].topology, folder], capture_output=True, text=True, check=False)
-        found: dict[str, Any] = json.loads(ran.stdout) if ran.returncode == 0 else {}
+        try:
+            found: dict[str, Any] = json.loads(tables(self.network.topology, folder))
+        except Unknown:
+            return {}
         return found
 
     def paths(self) -> dict[tuple[str, str], tuple[str, ...]]:
@@ -161,8 +162,9 @@ class Rolling:
         names = [router.name for router in self.network.topology.routers]
         for place, name in enumerate(names):
             for failure in failures[place::len(names)] or [NOTHING]:
-                self.network.make(failure)
-                time.sleep(HALF_WAY)
+                if not failure.fails_as(self.network.now):
+                    self.network.make(failure)
+                    time.sleep(HALF_WAY)
             self.take(name, stage, is_still(before, stage))
         self.network.make(NOTHING)
         self.settled(stage)

@@ -1,7 +1,6 @@
 """The words of tools/rollout, the order of the stages, and what is asked in between."""
 from __future__ import annotations
 
-import os
 import sys
 import tempfile
 import time
@@ -93,7 +92,7 @@ class Change:
         """Loads a stage at these routers, one after another."""
         start, waiting = self.begin(to, names)
         before = self.moment()
-        if waiting and (is_still(start, to) or start is not to):
+        if waiting:
             self.audit(start.side, before)
         for name in waiting:
             plan = self.rollout.plan(to, self.site(name))
@@ -118,7 +117,7 @@ def change_of(words: Sequence[str], options: Options, folder: str) -> Change:
     rollout = Rollout.read(words[3], topology, Addresses(read_text(words[1]), topology), options.paths, options.ties)
     routers = read_routers(read_text(words[2]), topology)
     prefixes = list(dict.fromkeys(prefix for stage in (Stage.OLD, Stage.NEW) for prefix in asked_prefixes(rollout.maps[stage])))
-    recorder = Recorder(os.path.abspath(words[0]), topology, routers, prefixes, folder)
+    recorder = Recorder(topology, routers, prefixes, folder)
     auditors = {side: Auditor(found(), [words[0], *(rollout.text(side, name) for name in ("policy", "config", "evidence"))], folder)
                 for side in (Stage.OLD, Stage.NEW)}
     return Change(rollout, {router.name: router for router in routers}, recorder, auditors)

@@ -16,10 +16,11 @@ class Bench(unittest.TestCase):
             with self.subTest(other):
                 status, out, wrong = self.against(other, "leaf-spine-2")
                 self.assertEqual((status, wrong), (0, ""))
-                head, line = out.splitlines()
+                head, line, last = out.splitlines()
                 self.assertEqual(head.split(), ["case", "seconds", "MiB", "other", "MiB", "ratio", "size", "outputs"])
                 self.assertRegex(line, r"^leaf-spine-2 +[0-9.]+ +[0-9]+ +[0-9.]+ +[0-9]+ +(?:[0-9.]+|-)  6 routers, 10 links, 3 cases, ")
                 self.assertTrue(line.endswith(said), line)
+                self.assertRegex(last, "^1 alike: [0-9.]+ times as long in the mean; more than 1.5 times: " if said == "alike" else "^no case ")
 
     def test_no_other(self):
         for words in ([], [""], ["no-such-program"]):

@@ -108,6 +108,34 @@ class Output(unittest.TestCase):
                 os.remove(pid)
                 self.assertEqual(os.listdir(self.folder), ["stub"])
 
+    def test_for_people(self):
+        """Where there are words for people a signal goes on to the program, too; and only words need Python."""
+        program = self.stub("echo half; echo line >&2; echo $$ > pid; exec sleep 60")
+        for number in signal.SIGTERM, signal.SIGINT, signal.SIGHUP:
+            with self.subTest(number):
+                how = {"cwd": self.folder, "stdin": subprocess.DEVNULL, "stdout": subprocess.PIPE, "stderr": subprocess.PIPE}
+                with subprocess.Popen([RUN, program, "x"], env={**os.environ, "PROPANE_HINTS": "on"}, preexec_fn=hear_all, **how) as running:
+                    pid = os.path.join(self.folder, "pid")
+                    ends = time.monotonic() + 60
+                    while not (os.path.exists(pid) and os.path.getsize(pid)) and time.monotonic() < ends:
+                        time.sleep(0.01)
+                    running.send_signal(number)
+                    self.assertEqual((running.communicate(timeout=60), running.returncode), ((b"half\n", b"line\n"), -number))
+                with open(pid, encoding="utf-8") as file:
+                    self.assertFalse(os.path.exists(f"/proc/{file.read().strip()}"))
+                os.remove(pid)
+        os.rename(self.stub('echo asked >> "$LOG"'), os.path.join(self.folder, "python3"))
+        log = os.path.join(self.folder, "log")
+        people = {**os.environ, "PROPANE_HINTS": "on", "PATH": self.folder + os.pathsep + os.environ["PATH"], "LOG": log}
+        self.assertEqual(ended([RUN, PROGRAM, "compile", *TWO], env=people), (0, self.wanted, ""))
+        self.assertFalse(os.path.exists(log))
+        self.assertEqual(ended([RUN, PROGRAM, "compile", *reversed(TWO)], env=people), (3, "", "propane: topology 1 not-json\n"))
+        self.assertTrue(os.path.exists(log))
+        self.assertEqual(ended([RUN, self.stub("cat; exit 3"), "x"], env=people, input="read\n", stdin=None), (3, "read\n", ""))
+        for closed, wanted in (">&-", (5, "", "")), ("<&-", (0, self.wanted, "")), ("2>&-", (0, self.wanted, "")):
+            words = ["sh", "-c", f'exec "$@" {closed}', "sh", RUN, PROGRAM, "compile", *TWO]
+            self.assertEqual(ended(words, env=people), wanted, closed)
+
     def test_plain(self):
         """Without it the program stands in the place of the script, and its outputs are its own."""
         self.assertEqual(ended([RUN, PROGRAM, "compile", *TWO]), (0, self.wanted, ""))

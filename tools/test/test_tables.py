@@ -94,7 +94,7 @@ REFUSED = [
 def made(topology, folder):
     """What tools/tables writes, or the line with which it ends."""
     try:
-        return TABLES.tables(topology, folder), ""
+        return TABLES.tables(TABLES.network(topology), folder), ""
     except (TABLES.Unknown, OSError) as why:
         return "", f"{why}"
 

@@ -61,7 +61,7 @@ class Watch(unittest.TestCase):
 
         def watcher(daemon):
             words = {"R1": {"bird": [fake, self.home("R1")]}, "R2": {daemon: [fake, self.home("R2")]}}
-            return Watcher(network, Recorder(topology, network, read_routers(json.dumps(words), network), [PREFIX], work),
+            return Watcher(network, Recorder(network, read_routers(json.dumps(words), network), [PREFIX], work),
                            Auditor.compiled(PROGRAM, topology, policy, work))
 
         self.watcher, self.with_openbgpd = watcher("frr"), watcher("openbgpd")
@@ -148,6 +148,8 @@ class Watch(unittest.TestCase):
         self.assertEqual(rounds(5), ["session R2 P2: is down", f"{PREFIX}: stable, was unstable router R2 not-given"])
         self.answer("R2", "-j show neighbor", "bgpctl: connect: no such file\n")
         self.assertEqual(rounds(5)[0], "router R2: doesn't answer")
+        self.r1({64513: False, 1001: True}, [1001], 101, (64512, 1))
+        self.assertEqual(rounds(5)[:2], ["router R2: is down, was doesn't answer", f"{PREFIX}: stable, was not audited: R2 doesn't answer"])
 
     def test_silent(self):
         """A peer that announces nothing is told."""

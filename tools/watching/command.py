@@ -72,7 +72,7 @@ def watch(words: argparse.Namespace, folder: str) -> int:
     program, texts = found(), [os.path.abspath(words.topology), os.path.abspath(words.policy)]
     auditor = Auditor.compiled(program, texts[0], texts[1], folder)
     prefixes = words.prefix or asked_prefixes(read_maps(topology, asked(program, "routemap", *texts)[1]))
-    recorder = Recorder(texts[0], topology, routers, prefixes, folder)
+    recorder = Recorder(topology, routers, prefixes, folder)
     say(f"watches routers {len(routers)} prefixes {len(prefixes)}: {' '.join(prefixes)}", words.once)
     watcher = Watcher(topology, recorder, auditor)
     while True:

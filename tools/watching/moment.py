@@ -3,20 +3,18 @@ from __future__ import annotations
 
 import itertools
 import os
-import subprocess
-import sys
 import time
 from collections.abc import Iterator, Sequence
 from concurrent.futures import ThreadPoolExecutor
 from dataclasses import dataclass
-from typing import Any
 
+from texts.recorded import DEAD, ENDINGS, Unknown
+from texts.recorded import tables as tables_of
 from texts.scenario import Pairs, Scenario
 from texts.topology import Topology
 
 from .routers import Router, Silent
 
-TABLES = os.path.join(os.path.dirname(os.path.dirname(os.path.abspath(__file__))), "tables")
 PAUSE = 1.0  # seconds between two recordings that are to be equal
 LEAST = 5  # recordings before a network counts as one that doesn't rest, however long they take
 AT_ONCE = 32
@@ -59,8 +57,8 @@ def heard(router: Router, prefixes: Sequence[str]) -> Heard:
 class Recorder:
     """Records a network."""
 
-    def __init__(self, topology: str, network: Topology, routers: Sequence[Router], prefixes: Sequence[str], folder: str) -> None:
-        self.topology, self.network, self.routers, self.prefixes, self.folder = topology, network, routers, prefixes, folder
+    def __init__(self, network: Topology, routers: Sequence[Router], prefixes: Sequence[str], folder: str) -> None:
+        self.network, self.routers, self.prefixes, self.folder = network, routers, prefixes, folder
 
     def moment(self, ends: float) -> Moment | None:
         """The first moment that is recorded twice; None where none is before the time is up, and in some recordings at least."""
@@ -111,13 +109,15 @@ class Recorder:
         folder = os.path.join(self.folder, str(place))
         os.makedirs(folder, exist_ok=True)
         for router in self.routers:
-            for ending in (".bird", ".frr", ".dead"):
+            for ending in ENDINGS:
                 if os.path.exists(path := os.path.join(folder, router.name + ending)):
                     os.remove(path)
             if told[router.name].why and router.name not in dead:
                 return "", f"{router.name} doesn't answer"
-            ending, text = (".dead", "") if router.name in dead else (router.ending, told[router.name].routes[place])
+            ending, text = (DEAD, "") if router.name in dead else (router.ending, told[router.name].routes[place])
             with open(os.path.join(folder, router.name + ending), "w", encoding="utf-8") as file:
                 file.write(text)
-        ran: Any = subprocess.run([sys.executable, TABLES, self.topology, folder], stdin=subprocess.DEVNULL, capture_output=True, text=True)
-        return (ran.stdout, "") if ran.returncode == 0 else ("", ran.stderr.strip().removeprefix("tables: "))
+        try:
+            return f"{tables_of(self.network, folder)}\n", ""
+        except Unknown as why:
+            return "", str(why)

@@ -11,7 +11,7 @@ USAGE_LINE = ("propane: usage: compile TOPO POLICY, evidence TOPO POLICY, check 
           " renew TOPO POLICY CONFIG, renewal TOPO POLICY CONFIG, waiting TOPO POLICY EVENTS\n")
 
 VERSION = """\
-propane 1.1.0
+propane 2.0.0
 kit rattle-kit-13f
 """
 

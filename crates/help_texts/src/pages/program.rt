@@ -88,6 +88,6 @@ example
 ";
 
 /// The name, the version and the kit.
-pub const VERSION: &str = "propane 1.1.0
+pub const VERSION: &str = "propane 2.0.0
 kit rattle-kit-13f
 ";
