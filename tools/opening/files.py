@@ -42,10 +42,11 @@ class Unwritten(Exception):
 
 
 class PolicyFile:
-    """The policy's file, with the text that it had when it was last read here."""
+    """The policy's file, with the text that it had when it was last read here. `runs` is the text that it had when the page was begun, or
+    that the page has saved last: the policy that the network runs, as far as this can know."""
 
     def __init__(self, path: str, text: str) -> None:
-        self.path, self.text, self.seen = os.path.abspath(path), text, mark(text.encode())
+        self.path, self.text, self.seen, self.runs = os.path.abspath(path), text, mark(text.encode()), text
         self.lock = threading.Lock()
 
     def now(self) -> tuple[str, str]:
@@ -67,7 +68,7 @@ class PolicyFile:
                 self.replace(text.encode())
             except OSError as fault:
                 raise Unwritten from fault
-            self.text, self.seen = text, mark(text.encode())
+            self.text, self.seen, self.runs = text, mark(text.encode()), text
             return self.seen
 
     def replace(self, held: bytes) -> None:

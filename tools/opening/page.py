@@ -5,13 +5,15 @@ import json
 import re
 import secrets
 from collections.abc import Callable
+from functools import partial
 
 from reasons.forms import FORMS
-from texts.statuses import BAD_INPUT, DONE, REFUSED
+from rolling.stages import Stage
+from texts.statuses import BAD_INPUT, CHECK_FAILS, DONE, REFUSED
 from texts.tokens import WORDS
 from words.places import Text
 
-from . import places
+from . import changing, places
 from .files import MOST_BYTES, Changed, PageFiles, PolicyFile, Unwritten
 from .runner import COMMANDS, Runner
 
@@ -51,7 +53,7 @@ class Page:
     def __init__(self, runner: Runner, names: list[str], policy: PolicyFile, files: PageFiles, may_save: bool) -> None:
         self.runner, self.names, self.policy, self.files, self.may_save = runner, names, policy, files, may_save
         self.secret = secrets.token_urlsafe(24)
-        self.parts: dict[str, Callable[[Told], Told]] = {"ask": self.ask, "why": self.why, "file": self.file}
+        self.parts: dict[str, Callable[[Told], Told]] = {"ask": self.ask, "why": self.why, "change": self.change, "file": self.file}
         if may_save:
             self.parts["save"] = self.save
 
@@ -59,7 +61,8 @@ class Page:
         """What the page begins with: the texts as they are now, and what it needs to show them."""
         text, seen = self.policy.now()
         return {
-            "topology": self.runner.topology.decode("utf-8", "replace"), "policy": text, "seen": seen, "names": self.names,
+            "topology": self.runner.topology.decode("utf-8", "replace"), "policy": text, "seen": seen, "runs": self.policy.runs,
+            "names": self.names,
             "version": self.runner.version, "proved": self.runner.is_proved, "save": self.may_save,
             "forms": [{"name": form.name, "said": form.said} for form in FORMS],
             "words": {"calls": CALLS, "plain": [word for word in WORDS if word not in CALLS]},
@@ -107,10 +110,36 @@ class Page:
         answer = self.runner.why(text_in(value, "policy"), self.lane(value, "why"))
         return {"status": answer.status, "parts": [json.loads(line) for line in answer.output.decode("utf-8", "replace").splitlines()]}
 
+    def change(self, value: Told) -> Told:
+        """The steps from one policy to another, and the block of a router in each stage where one is named."""
+        before, policy, lane = text_in(value, "before"), text_in(value, "policy"), self.lane(value, "change")
+        try:
+            texts = self.stages(before, policy, lane)
+        except changing.Unwritten as fault:
+            return self.unchanged(fault, lane)
+        router = value.get("router")
+        return {"status": DONE, "steps": changing.steps(texts)} | (
+            {"blocks": changing.block_lines(texts, router)} if isinstance(router, str) else {})
+
+    def stages(self, before: str, policy: str, lane: str) -> dict[Stage, str]:
+        """The configurations of a change. All of it is one question, which a newer one in its lane ends."""
+        with self.runner.turn(lane) as turn:
+            return changing.configurations(partial(self.runner.of_texts, turn), self.runner.topology, before.encode(), policy.encode())
+
+    def unchanged(self, fault: changing.Unwritten, lane: str) -> Told:
+        """Why there are no stages."""
+        answer, command = fault.answer, fault.command
+        line = (answer.output if answer.status == CHECK_FAILS else answer.error).decode("utf-8", "replace").rstrip("\n")
+        told: Told = {"status": answer.status, "command": command, "error": line.removeprefix("propane: ")}
+        if answer.status in (REFUSED, BAD_INPUT, CHECK_FAILS):
+            texts = {place: Text(name, held) for place, (name, held) in enumerate(fault.texts.items())}
+            told |= places.of_fault(self.runner, command, answer, texts, lane)
+        return told
+
     def file(self, value: Told) -> Told:
-        """The policy as its file has it now, where that isn't what was seen."""
+        """The policy as its file has it now, where that isn't what was seen, and the one that runs."""
         text, now = self.policy.now()
-        return {"status": 0, "seen": now} | ({} if text_in(value, "seen", MOST_WORD) == now else {"policy": text})
+        return {"status": 0, "seen": now} | ({} if text_in(value, "seen", MOST_WORD) == now else {"policy": text, "runs": self.policy.runs})
 
     def save(self, value: Told) -> Told:
         """Puts the policy in its file's place, where the file is as the page has seen it."""

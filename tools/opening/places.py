@@ -17,6 +17,7 @@ from .runner import COMMANDS, Answer, Runner
 Place = dict[str, int]
 Told = dict[str, object]
 KINDS: dict[str, list[str]] = {"": [], "scenario.json": ["SCENARIO"], "events.json": ["EVENTS"]}  # of a command's third text
+CHANGING = {"renew": ["TOPO", "POLICY", "CONFIG"], "between": ["BEFORE", "AFTER"]}  # the texts of commands that aren't asked alone
 FINDING = re.compile(r"(?:unused group (?P<group>\S+)|(?:covered|idle|unreached) statement (?P<statement>[0-9]+)(?: alternative [0-9]+)?)")
 
 
@@ -47,10 +48,15 @@ def place_of(hint: Hint, held: bytes) -> Place:
     return marked(held, begins, max(begins + 1, min(hint.at + hint.length, last)) if held else 0)
 
 
+def kinds_of(command: str) -> list[str]:
+    """What the texts of a command are, as the usage line has it."""
+    return CHANGING[command] if command in CHANGING else ["TOPO", "POLICY", *KINDS[COMMANDS[command]]]
+
+
 def hint_on(runner: Runner, command: str, answer: Answer, texts: Mapping[int, Text], lane: str) -> Hint:
     """The words for people behind the program's line; none where this can't tell them, or a text is long."""
     line = answer.error.decode("utf-8", "replace").rstrip("\n")
-    kinds = ["TOPO", "POLICY", *KINDS[COMMANDS[command]]]
+    kinds = kinds_of(command)
 
     def evidence_of(policy: bytes) -> str:
         return runner.ask("evidence", policy.decode("utf-8", "replace"), "", f"{lane} case").output.decode("utf-8", "replace")
@@ -63,11 +69,12 @@ def hint_on(runner: Runner, command: str, answer: Answer, texts: Mapping[int, Te
 
 def of_fault(runner: Runner, command: str, answer: Answer, texts: Mapping[int, Text], lane: str) -> Told:
     """What is said of a fault or a refusal: sentences, near names, where in another text it is, and a page that says more; and its place
-    in the policy, which is the second text, or none."""
-    policy, hint = texts[1], hint_on(runner, command, answer, texts, lane)
-    where = hint.text.place(hint.at) if hint.text and hint.text is not policy else ""
+    in the policy, where the second text is one, or none."""
+    hint = hint_on(runner, command, answer, texts, lane)
+    policy = texts[1] if kinds_of(command)[1] == "POLICY" and hint.text is texts[1] else None
+    where = hint.text.place(hint.at) if hint.text and not policy else ""
     words = {"says": hint.says, "near": hint.near, "where": where, "page": hint.page, "part": hint.part}
-    return {"words": words, "place": place_of(hint, policy.bytes) if hint.text is policy else None}
+    return {"words": words, "place": place_of(hint, policy.bytes) if policy else None}
 
 
 # ---- statements and findings

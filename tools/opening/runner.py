@@ -35,6 +35,17 @@ UNPROVED = ".unproved."  # in the name of a build without proof (tools/program)
 STOPPED = -1  # a newer question has taken the place of this one, or the time was up
 
 
+Texts = dict[str, bytes]  # what a run reads, each by the name of its file
+
+
+def key_of(words: list[str], texts: Texts) -> bytes:
+    """What stands for a question in those that were answered."""
+    held = hashlib.sha256(repr(words).encode())
+    for text in texts.values():
+        held.update(hashlib.sha256(text).digest())
+    return held.digest()
+
+
 @dataclass(frozen=True)
 class Answer:
     """How a run has ended: its status, or STOPPED, and what it wrote."""
@@ -96,9 +107,10 @@ def taken_away(folder: str, until: float) -> None:
 
 
 class Turn:
-    """A question that is being asked, its folder, and the process that answers it once that is begun."""
+    """A question that is being asked in a lane, its folder, and the process that answers it once that is begun."""
 
-    def __init__(self) -> None:
+    def __init__(self, lane: str) -> None:
+        self.lane = lane
         self.child: subprocess.Popen[bytes] | None = None
         self.folder = ""
 
@@ -126,32 +138,37 @@ class Runner:
     def ask(self, command: str, policy: str, third: str, lane: str) -> Answer:
         """What a command says of a policy."""
         name = COMMANDS[command]
-        words = [self.program, command, "topology.json", "policy.propane", *([name] if name else [])]
-        return self.answer((command, policy, third), words, {name: third.encode()} if name else {}, lane, SECONDS, {})
+        with self.turn(lane) as turn:
+            return self.of_texts(turn, command, self.policy_texts(policy) | ({name: third.encode()} if name else {}))
+
+    def policy_texts(self, policy: str) -> Texts:
+        """The topology and a policy."""
+        return {"topology.json": self.topology, "policy.propane": policy.encode()}
+
+    def of_texts(self, turn: Turn, command: str, texts: Texts, *more: str) -> Answer:
+        """What a command says of texts, which are its words in their order, and of more words behind them."""
+        return self.answer(turn, [self.program, command, *texts, *more], texts, SECONDS, {})
 
     def why(self, policy: str, lane: str) -> Answer:
         """What tools/why says of a refused policy."""
-        words = [self.why_script, "--records", "topology.json", "policy.propane"]
-        more = {"PROGRAM": self.program, "WHY_SECONDS": str(WHY_SECONDS)}
-        return self.answer(("why", policy, ""), words, {}, lane, WHY_SECONDS + 10, more)
+        texts, more = self.policy_texts(policy), {"PROGRAM": self.program, "WHY_SECONDS": str(WHY_SECONDS)}
+        with self.turn(lane) as turn:
+            return self.answer(turn, [self.why_script, "--records", *texts], texts, WHY_SECONDS + 10, more)
 
-    def answer(self, asked: tuple[str, str, str], words: list[str], texts: dict[str, bytes], lane: str, seconds: int,
-               environment: dict[str, str]) -> Answer:
+    def answer(self, turn: Turn, words: list[str], texts: Texts, seconds: int, environment: dict[str, str]) -> Answer:
         """The answer that was given before, or that of a run."""
-        key = hashlib.sha256(repr(asked).encode()).digest()
+        key = key_of(words, texts)
         found = self.kept.get(key)
         if found is None:
-            texts = {"topology.json": self.topology, "policy.propane": asked[1].encode(), **texts}
-            with self.turn(lane) as turn:
-                found = self.run(turn, lane, words, texts, seconds, environment)
+            found = self.run(turn, words, texts, seconds, environment)
             if found.status >= 0:
                 self.kept.put(key, found)
         return found
 
     @contextlib.contextmanager
     def turn(self, lane: str) -> Iterator[Turn]:
-        """The turn of a new question in a lane. What was asked there before is ended."""
-        turn = Turn()
+        """The turn of a new question in a lane, or of several, one after another. What was asked there before is ended."""
+        turn = Turn(lane)
         with self.lock:
             if lane in self.lanes:
                 self.lanes[lane].end()
@@ -163,20 +180,19 @@ class Runner:
                 if self.lanes.get(lane) is turn:
                     del self.lanes[lane]
 
-    def run(self, turn: Turn, lane: str, words: list[str], texts: dict[str, bytes], seconds: int, environment: dict[str, str]) -> Answer:
+    def run(self, turn: Turn, words: list[str], texts: Texts, seconds: int, environment: dict[str, str]) -> Answer:
         """Runs words in a folder with these texts."""
         with self.places:
             try:
-                child = self.begun(turn, lane, words, texts, environment)
-                return Answer(STOPPED) if child is None else self.told(turn, lane, child, seconds)
+                child = self.begun(turn, words, texts, environment)
+                return Answer(STOPPED) if child is None else self.told(turn, child, seconds)
             finally:
                 self.ended(turn)
 
-    def begun(self, turn: Turn, lane: str, words: list[str], texts: dict[str, bytes],
-              environment: dict[str, str]) -> subprocess.Popen[bytes] | None:
+    def begun(self, turn: Turn, words: list[str], texts: Texts, environment: dict[str, str]) -> subprocess.Popen[bytes] | None:
         """The process that answers, in a folder with these texts; none where a newer question came meanwhile, or the end."""
         with self.lock:
-            if self.is_closed or self.lanes.get(lane) is not turn:
+            if self.is_closed or self.lanes.get(turn.lane) is not turn:
                 return None
             self.running.add(turn)
             self.folder = self.folder or tempfile.mkdtemp(prefix="propane-open.")
@@ -192,7 +208,7 @@ class Runner:
                 resource.prlimit(turn.child.pid, resource.RLIMIT_AS, (MEMORY, MEMORY))
         return turn.child
 
-    def told(self, turn: Turn, lane: str, child: subprocess.Popen[bytes], seconds: int) -> Answer:
+    def told(self, turn: Turn, child: subprocess.Popen[bytes], seconds: int) -> Answer:
         """What the process that answers says, within so many seconds."""
         try:
             output, error = child.communicate(timeout=seconds)
@@ -202,7 +218,7 @@ class Runner:
             return Answer(STOPPED, error=f"no answer in {seconds} seconds".encode())
         if child.returncode >= 0:
             return Answer(child.returncode, output, error)
-        ended = f"the program was ended by signal {-child.returncode}" if self.is_last(turn, lane) else ""
+        ended = f"the program was ended by signal {-child.returncode}" if self.is_last(turn) else ""
         return Answer(STOPPED, error=ended.encode())
 
     def ended(self, turn: Turn) -> None:
@@ -212,10 +228,10 @@ class Runner:
         with self.lock:
             self.running.discard(turn)
 
-    def is_last(self, turn: Turn, lane: str) -> bool:
+    def is_last(self, turn: Turn) -> bool:
         """Whether no newer question of the lane, and no end, has come meanwhile."""
         with self.lock:
-            return self.lanes.get(lane) is turn and not self.is_closed
+            return self.lanes.get(turn.lane) is turn and not self.is_closed
 
     def close(self) -> None:
         """Ends all that is asked, and takes away all that was made for it. It waits a few seconds at most, whatever is asked."""

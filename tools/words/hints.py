@@ -168,9 +168,17 @@ def refused(line: str, kinds: Sequence[str], texts: Mapping[int, Text], evidence
     return refusals.hint(word, values, case_of, policy).seeing("REFUSALS.md", "Why a router can't" if word == "no-evidence" else "The refusals")
 
 
+def says_no(command: str) -> Hint:
+    """A verdict that the output tells."""
+    page = {"audit": ("AUDIT.md", ""), "checkmap": ("FORMATS.md", "The verdict on maps"), "between": ("FORMATS.md", "What is in the way")}
+    return NOTHING.seeing(*page.get(command, ("EVIDENCE.md", "The ten rules")))
+
+
 def of_texts(status: int, line: str, command: str, kinds: Sequence[str], texts: Mapping[int, Text],
              evidence_of: Callable[[bytes], str]) -> Hint:
     """What is said of the texts of a command, each by its place among the words. `evidence_of` asks the program for evidence."""
+    if status == CHECK_FAILS:
+        return says_no(command)
     return bad_input(line, command, kinds, texts) if status == BAD_INPUT else refused(line, kinds, texts, evidence_of)
 
 
@@ -189,8 +197,7 @@ def told(program: str, status: int, output: bytes, words: Sequence[str]) -> Hint
         return NOTHING
     command, kinds = words[0], usage(program).get(words[0], [])
     if status == CHECK_FAILS:
-        page = {"audit": ("AUDIT.md", ""), "checkmap": ("FORMATS.md", "The verdict on maps"), "between": ("FORMATS.md", "What is in the way")}
-        return NOTHING.seeing(*page.get(command, ("EVIDENCE.md", "The ten rules")))
+        return says_no(command)
     found = {place: text_of(word) for place, (kind, word) in enumerate(zip(kinds, words[1:])) if kind in CALLED}
     texts = {place: text for place, text in found.items() if text}
     topology = next((text.word for place, text in texts.items() if kinds[place] == "TOPO"), "")

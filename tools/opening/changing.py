@@ -1,0 +1,90 @@
+"""A change of policy, as a running network takes it: the configurations of its stages, who has something to load in each, and what a
+router's block gains and loses there.
+
+The configurations are the program's: what `compile` writes of the policy that runs, what `renew` writes of the new one, and what
+`between` writes of these two. Here their texts are compared, block by block and line by line.
+"""
+from __future__ import annotations
+
+import re
+from collections.abc import Callable, Iterator
+from dataclasses import dataclass
+from itertools import pairwise
+
+from rolling.stages import Stage, is_still
+from texts.statuses import DONE
+
+from .runner import Answer, Texts
+
+Ask = Callable[..., Answer]  # asks the program: a command, its texts by their names, and more words
+Told = dict[str, object]
+Line = tuple[str, str]  # a sign (added, taken away or kept), and what the line says
+ADDED, GONE, KEPT = "+", "-", " "
+NUMBERS = {Stage.ONE: "1", Stage.TWO: "2"}  # of the stages that `between` writes
+
+
+@dataclass
+class Unwritten(Exception):
+    """A command didn't write its configuration: how it ended, and the texts that it read."""
+
+    command: str
+    answer: Answer
+    texts: Texts
+
+
+def configurations(ask: Ask, topology: bytes, before: bytes, after: bytes) -> dict[Stage, str]:
+    """The configuration of each stage, from one policy to another."""
+
+    def written(command: str, texts: Texts, *more: str) -> bytes:
+        answer = ask(command, texts, *more)
+        if answer.status != DONE:
+            raise Unwritten(command, answer, texts)
+        return answer.output
+
+    old = written("compile", {"topology.json": topology, "policy.propane": before})
+    new = written("renew", {"topology.json": topology, "policy.propane": after, "config.txt": old})
+    between = {stage: written("between", {"before.txt": old, "after.txt": new}, number) for stage, number in NUMBERS.items()}
+    return {stage: text.decode() for stage, text in ({Stage.OLD: old} | between | {Stage.NEW: new}).items()}
+
+
+def blocks(configuration: str) -> dict[str, str]:
+    """The block of each router."""
+    return {found[1]: found[0] for found in re.finditer(r"^router (\S+) .*?^end$", configuration, re.M | re.S)}
+
+
+def steps(texts: dict[Stage, str]) -> list[Told]:
+    """Each step from a stage to the next: which routers have something to load, as their blocks differ, and whether nothing moves."""
+    held = {stage: blocks(text) for stage, text in texts.items()}
+    return [
+        {"to": after.value, "still": is_still(before, after), "load": [name for name, block in held[after].items() if held[before].get(name) != block]}
+        for before, after in pairwise(texts)]
+
+
+def placed(block: str) -> Iterator[Line]:
+    """Each line of a block behind the line of the neighbour that it is of, so that none occurs twice."""
+    of = ""
+    for line in block.splitlines():
+        if line.startswith(("session ", "peer ")):
+            of = line
+        yield of, line
+
+
+def compared(before: str, after: str) -> list[Line]:
+    """The lines of a block, and where they stood those that are taken away. What is kept has the same order in both."""
+    old, new = list(placed(before)), list(placed(after))
+    were, are = frozenset(old), frozenset(new)
+    found, at = list[Line](), 0
+    for each in new:
+        while at < len(old) and old[at] not in are:
+            found.append((GONE, old[at][1]))
+            at += 1
+        is_kept = each in were
+        at += is_kept
+        found.append((KEPT if is_kept else ADDED, each[1]))
+    return found + [(GONE, line) for _, line in old[at:]]
+
+
+def block_lines(texts: dict[Stage, str], router: str) -> dict[str, list[Line]]:
+    """The block of a router in each stage, with the lines that the step to it adds and takes away."""
+    held = [blocks(text).get(router, "") for text in texts.values()]
+    return {stage.value: compared(before, after) for stage, before, after in zip(texts, [held[0], *held], held)}
