@@ -41,6 +41,8 @@ export const start = async () => (await fetch("start")).json();
 /** What a command says of the policy and a third text, where it reads one. */
 export const ask = (command, policy, third, lane = command, more = {}) =>
   post("ask", { command, policy, ...(third === undefined ? {} : { third }), ...more }, lane);
+/** The steps of a change from one policy to another, and of a router its blocks, where one is named. */
+export const change = (before, policy, router) => post("change", { before, policy, router }, router ? "change block" : "change");
 export const why = (policy) => post("why", { policy }, "why");
 export const save = (policy, seen) => post("save", { policy, seen }, "save");
 export const file = (seen) => post("file", { seen }, "file");

@@ -3,7 +3,7 @@
 import * as api from "./api.js";
 import { by } from "./dom.js";
 import { editPolicy, followed, setPolicy } from "./policy.js";
-import { chosen, file } from "./state.js";
+import { chosen, file, running } from "./state.js";
 
 const EVERY = 1000; // milliseconds
 const ENDED = -2;
@@ -21,6 +21,7 @@ async function follow() {
   const isEdited = chosen.policy !== file.policy;
   file.seen = said.seen;
   onDisk = said.policy;
+  running.policy = said.runs;
   if (isEdited && onDisk !== chosen.policy) { by("changed").hidden = false; return; }
   file.policy = onDisk;
   if (onDisk === chosen.policy) followed(); else setPolicy(onDisk);

@@ -1,10 +1,11 @@
 // Saving and copying.
 
+import { refresh } from "./answers.js";
 import * as api from "./api.js";
 import { by, el, put } from "./dom.js";
 import { saved } from "./network.js";
 import { followed } from "./policy.js";
-import { chosen, eventText, file, given, keep, scenario } from "./state.js";
+import { chosen, eventText, file, given, keep, running, scenario } from "./state.js";
 
 const TOLD = 2500, HELD = 1000; // milliseconds
 
@@ -30,7 +31,9 @@ async function savePolicy() {
   const { policy } = chosen, said = await api.save(policy, file.seen);
   if (said?.status === 0) {
     Object.assign(file, { seen: said.seen, policy });
+    running.policy = policy;
     followed();
+    refresh(false);
     toast("saved");
   } else toast(/409/.test(said?.error) ? "the file has been changed by somebody else: nothing is written" : said?.error ?? "no answer");
 }

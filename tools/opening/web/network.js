@@ -72,12 +72,12 @@ function pathOf(name) {
 
 // ---- shapes
 
-function showSites(changed, { heat, count, free }) {
-  const names = new Set(changed.map(({ name }) => name)), hasRoutes = !view().hasNoArrows;
+function showSites(changed, { heat, count, free, loads }) {
+  const names = new Set(loads ? [] : changed.map(({ name }) => name)), hasRoutes = !view().hasNoArrows;
   for (const [name, site] of picture.sites) {
     site.show({
       standing: answers.report?.routers.get(name), isDead: chosen.dead.has(name), isMute: net.isPeer(name) && isSilent(name),
-      isChanged: names.has(name), isPinned: chosen.pinned === name,
+      isChanged: names.has(name), isPinned: chosen.pinned === name, loads: loads?.has(name),
       heat: heat?.get(name), isFree: free?.has(name), count: count?.get(name), hasRoutes,
     });
   }
@@ -117,9 +117,10 @@ function legend() {
 }
 
 function showList(changed) {
-  const place = by("view"), top = place.scrollTop;
+  const place = by("view"), top = place.scrollTop, focused = place.contains(document.activeElement) && document.activeElement.id;
   put(place, view().list(changed));
   place.scrollTop = top;
+  if (focused) by(focused)?.focus({ preventScroll: true });
   if (changed.length && answers.cause) by("live").textContent = spoken(changed);
 }
 

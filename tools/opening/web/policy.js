@@ -10,6 +10,7 @@ import { button } from "./parts.js";
 import { markPromises } from "./promises.js";
 import { chosen, file, given, net } from "./state.js";
 import { groupsIn } from "./tokens.js";
+import { view } from "./views.js";
 
 const PAUSE = 160; // milliseconds for further keys
 const MOST_FINDINGS = 200;
@@ -105,7 +106,7 @@ const OF_EXPLAIN = /^`explain`/; // what the page shows itself
 
 function faultShown(fault) {
   const { says = [], near = [], where, page, part } = fault.words ?? {}, isRefused = fault.status === REFUSED;
-  return el("div", { class: "say fault" }, el("p", { class: "line" }, el("code", {}, fault.error)),
+  return el("div", { class: "say fault" }, fault.of ? el("p", {}, fault.of) : null, el("p", { class: "line" }, el("code", {}, fault.error)),
     [where, ...says].filter((line) => line && !OF_EXPLAIN.test(line)).map((line) => el("p", {}, line)),
     near.length ? nearShown(near, fault.place) : null,
     fault.place && !isRefused ? button("Go there", () => editor.goTo(fault.place.from)) : null, isRefused ? whyShown() : null,
@@ -128,7 +129,7 @@ function findingShown({ line, place }) {
 let shown = []; // the answers that are shown
 
 function showPolicy() {
-  const { fault, findings, why } = answers, now = [fault, findings, why];
+  const { findings, why } = answers, fault = answers.fault ?? view().fault?.(), now = [fault, findings, why];
   showVerdict();
   if (now.every((each, k) => each === shown[k])) return;
   shown = now;

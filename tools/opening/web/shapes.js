@@ -27,13 +27,14 @@ export class Site {
   }
 
   /** Shows how it stands; where the view has no routes, by its heat or whether it is free. `standing` is null for a peer. */
-  show({ standing, isDead, isMute, isChanged, isPinned, heat, isFree, count, hasRoutes }) {
+  show({ standing, isDead, isMute, isChanged, isPinned, loads, heat, isFree, count, hasRoutes }) {
     const form = isDead ? "dead" : hasRoutes && !this.isPeer ? formOf(standing) : "";
     const label = !hasRoutes ? count ?? "" : form.startsWith("rank") ? String(standing.rank) : SIGNS[form] ?? "";
     const classes = ["g-node", this.isPeer && "peer", isDead && "dead", isMute && "mute", isChanged && "changed", isPinned && "pinned",
-      heat > HOT && "hot"].filter(Boolean).join(" ");
+      loads && "loads", heat > HOT && "hot"].filter(Boolean).join(" ");
+    const loading = loads ? ", has something to load" : "";
     const said = this.isPeer ? `Peer ${this.name}${isDead ? ", dead" : isMute ? ", announces nothing" : ""}`
-      : `Router ${this.name}, ${isDead ? "dead" : told(standing)}`;
+      : `Router ${this.name}, ${isDead ? "dead" : told(standing)}${loading}`;
     const fill = heat !== undefined ? warmth(heat) : isFree ? "var(--good-fill)" : form ? `var(--${form}-fill)` : "";
     const edge = heat !== undefined ? "var(--heat1)" : isFree ? "var(--free)" : form ? `var(--${form})` : "";
     const look = [form, label, classes, said, fill, edge].join("|");

@@ -10,12 +10,15 @@ export const net = topologyOf(given.topology);
 export const chosen = {
   prefix: "", view: "routes", theme: "", pinned: "",
   dead: new Set(), cut: new Set(), silent: new Set(), // locations; links; sessions, by their links
+  stage: "one", // of a change
   events: [], rest: false, // the events that have happened, and whether BGP was run to rest behind them
   moved: {}, // where routers were dragged
 };
 
 /** The policy as its file has it, as far as this page has seen it: `seen` stands for that text, `policy` is what was taken of it. */
 export const file = { seen: given.seen, policy: given.policy };
+/** The policy that the network runs, as far as the page can know: as the file had it when the page was begun, or when it was last saved. */
+export const running = { policy: given.runs };
 
 // ---- the address
 
@@ -32,13 +35,14 @@ function unpacked(text) {
   } catch { return {}; }
 }
 
+export const STAGES = ["old", "one", "two", "new"];
 const isEmpty = (value) => !value || (typeof value === "object" && !Object.keys(value).length);
 
 /** Writes what is chosen into the address; the policy goes with it where it isn't the file's. */
 export function keep(policy) {
   const value = {
     p: chosen.prefix, m: chosen.view, d: [...chosen.dead], c: [...chosen.cut], s: [...chosen.silent], e: chosen.events,
-    x: chosen.moved, q: chosen.pinned, h: chosen.theme, t: policy === file.policy ? "" : policy,
+    x: chosen.moved, q: chosen.pinned, h: chosen.theme, g: chosen.stage === "one" ? "" : chosen.stage, t: policy === file.policy ? "" : policy,
   };
   for (const key of Object.keys(value)) if (isEmpty(value[key])) delete value[key];
   history.replaceState(null, "", `#${packed(value)}`);
@@ -60,6 +64,7 @@ export function restore(views) {
   chosen.events = (Array.isArray(held.e) ? held.e : []).filter(isEvent);
   for (const [name, at] of Object.entries(held.x ?? {})) if (net?.sites.has(name) && isPlace(at)) chosen.moved[name] = at;
   chosen.pinned = net?.sites.has(held.q) ? held.q : "";
+  if (STAGES.includes(held.g)) chosen.stage = held.g;
   chosen.theme = ["dark", "light"].includes(held.h) ? held.h : "";
   return word(held.t) || given.policy;
 }
