@@ -23,6 +23,21 @@ def text_of(path: str) -> str:
         return file.read()
 
 
+CONTRARY = """#!/bin/sh
+[ "$1" = %s ] || exec %s "$@"
+%s
+"""
+
+
+def contrary(folder: str, command: str, script: str) -> str:
+    """A program in a folder that does one command otherwise, as a script says."""
+    path = os.path.join(folder, "contrary")
+    with open(path, "w", encoding="utf-8") as file:
+        file.write(CONTRARY % (command, PROGRAM, script))
+    os.chmod(path, 0o755)
+    return path
+
+
 def heard() -> None:
     """An interrupt is heard even where the tests run in the background of a shell, which lets it be ignored."""
     signal.signal(signal.SIGINT, signal.default_int_handler)

@@ -94,6 +94,7 @@ function loadsShown({ load }) {
 function nothingSaid() {
   if (!isEdited()) return "Edit the policy: then this shows how a running network goes over to it, stage by stage.";
   if (answers.fault) return "The edited policy isn't accepted.";
+  if (!chosen.prefix) return "Choose a prefix.";
   if (held.fault) return "There are no stages. What the program says of it stands below the policy.";
   return held.steps ? "" : "Asking …";
 }

@@ -9,7 +9,7 @@ import tempfile
 import unittest
 
 from common import PROGRAM, TOP
-from serving import Served, example, text_of
+from serving import Served, contrary, example, text_of
 
 ROLLOUT = os.path.join(TOP, "tools", "rollout")
 BACKBONE = example("cookbook", "abilene.json")
@@ -17,10 +17,6 @@ LEAVES = example("cookbook", "leaves.json")
 EXITS, SWAPPED, DRAIN = (example("cookbook", f"{name}.propane") for name in ("exits", "exits-swapped", "drain"))
 SPINE, RACK = (example("cookbook", f"{name}.propane") for name in ("spine", "spine-rack"))
 STAGES = ("old", "one", "two", "new")
-CONTRARY = """#!/bin/sh
-[ "$1" = %s ] || exec %s "$@"
-%s
-"""
 
 
 def written(*words: str) -> str:
@@ -42,12 +38,6 @@ class Changing(unittest.TestCase):
         if text:
             with open(path, "w", encoding="utf-8") as file:
                 file.write(text)
-        return path
-
-    def contrary(self, command: str, script: str) -> str:
-        """A program that does one command otherwise."""
-        path = self.file("contrary", CONTRARY % (command, PROGRAM, script))
-        os.chmod(path, 0o755)
         return path
 
     def change(self, served: Served, before: str, policy: str, **more: str) -> dict[str, object]:
@@ -112,7 +102,7 @@ class Refused(Changing):
             self.assertEqual((told["status"], told["command"]), (1, "compile"))
 
     def test_what_is_in_the_way_is_told(self) -> None:
-        program = self.contrary("between", "echo 'low pref 7'; exit 7")
+        program = contrary(self.room, "between", "echo 'low pref 7'; exit 7")
         with Served(BACKBONE, EXITS, program=program) as served:
             told = self.change(served, EXITS, SWAPPED)
         self.assertEqual((told["status"], told["command"], told["error"], told["place"]), (7, "between", "low pref 7", None))
@@ -121,7 +111,7 @@ class Refused(Changing):
 
     def test_refusals_of_stages_are_told(self) -> None:
         for command, line in ("renew", "refused 10 preferences-run-out pref 4294967295"), ("between", "refused 8 too-many-lines number 1000001"):
-            program = self.contrary(command, f"echo 'propane: {line}' >&2; exit 1")
+            program = contrary(self.room, command, f"echo 'propane: {line}' >&2; exit 1")
             with Served(BACKBONE, EXITS, program=program) as served:
                 told = self.change(served, EXITS, SWAPPED)
             self.assertEqual((told["status"], told["command"], told["error"]), (1, command, line))
