@@ -46,13 +46,13 @@ function turn() {
 
 const lineShown = ([sign, line]) => el(FORMS[sign], {}, `${sign} ${line}`);
 
-function linesShown(lines) {
+function linesShown(lines, said) {
   const count = (wanted) => lines.filter(([sign]) => sign === wanted).length;
   const added = count("+"), gone = count("-"), isChanged = added + gone > 0, shown = isWhole || !isChanged ? lines : changedAlone(lines);
   return [
     isChanged ? text(`${many(added, "line")} added, ${gone} taken away. `,
       button(isWhole ? "These alone" : "The whole block", turn, { id: "whole-block", class: "quiet" })) : null,
-    el("pre", { class: "block stage-block", id: "stage-block", tabindex: "0" }, shown.slice(0, MOST_LINES).map(lineShown)),
+    el("pre", { class: "block stage-block", id: "stage-block", tabindex: "0", role: "region", "aria-label": said }, shown.slice(0, MOST_LINES).map(lineShown)),
     shown.length > MOST_LINES ? text(`And ${many(shown.length - MOST_LINES, "more line")}.`) : null];
 }
 
@@ -62,5 +62,5 @@ export function askedBlock(title) {
   if (!net.routers.includes(router)) return text("Choose a router above, or Shift-click one, to see its block.");
   if (!held.has(router)) ask(router);
   const of = held.get(router), lines = of?.[chosen.stage];
-  return [head(`${router}: ${title}`), lines ? linesShown(lines) : text(of ? "No answer." : "…")];
+  return [head(`${router}: ${title}`), lines ? linesShown(lines, `Block of ${router}, ${title}`) : text(of ? "No answer." : "…")];
 }
