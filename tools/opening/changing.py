@@ -55,9 +55,11 @@ def blocks(configuration: str) -> dict[str, str]:
 def steps(texts: dict[Stage, str]) -> list[Told]:
     """Each step from a stage to the next: which routers have something to load, as their blocks differ, and whether nothing moves."""
     held = {stage: blocks(text) for stage, text in texts.items()}
-    return [
-        {"to": after.value, "still": is_still(before, after), "load": [name for name, block in held[after].items() if held[before].get(name) != block]}
-        for before, after in pairwise(texts)]
+
+    def loading(before: Stage, after: Stage) -> list[str]:
+        return [name for name, block in held[after].items() if held[before].get(name) != block]
+
+    return [{"to": after.value, "still": is_still(before, after), "load": loading(before, after)} for before, after in pairwise(texts)]
 
 
 def placed(block: str) -> Iterator[Line]:

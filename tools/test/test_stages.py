@@ -6,7 +6,9 @@ import os
 import shutil
 import subprocess
 import tempfile
+import time
 import unittest
+from concurrent.futures import ThreadPoolExecutor
 
 from common import PROGRAM, TOP
 from serving import Served, contrary, example, text_of
@@ -115,6 +117,18 @@ class Refused(Changing):
             with Served(BACKBONE, EXITS, program=program) as served:
                 told = self.change(served, EXITS, SWAPPED)
             self.assertEqual((told["status"], told["command"], told["error"]), (1, command, line))
+
+
+class Lanes(Changing):
+    def test_a_newer_change_ends_the_one_before(self) -> None:
+        begun = self.file("begun")
+        program = contrary(self.room, "renew", f'grep -q slow policy.propane && touch {begun} && sleep 600; exec {PROGRAM} "$@"')
+        with Served(BACKBONE, EXITS, program=program) as served, ThreadPoolExecutor(1) as pool:
+            first = pool.submit(served.post, "change", before=text_of(EXITS), policy="# slow\n" + text_of(SWAPPED))
+            while not os.path.exists(begun):
+                time.sleep(0.01)
+            self.assertEqual(self.change(served, EXITS, SWAPPED)["status"], 0)
+            self.assertEqual(first.result()[1]["status"], -1)
 
 
 class Runs(Changing):

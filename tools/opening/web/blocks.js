@@ -52,7 +52,8 @@ function linesShown(lines, said) {
   return [
     isChanged ? text(`${many(added, "line")} added, ${gone} taken away. `,
       button(isWhole ? "These alone" : "The whole block", turn, { id: "whole-block", class: "quiet" })) : null,
-    el("pre", { class: "block stage-block", id: "stage-block", tabindex: "0", role: "region", "aria-label": said }, shown.slice(0, MOST_LINES).map(lineShown)),
+    el("pre", { class: "block stage-block", id: "stage-block", tabindex: "0", role: "region", "aria-label": said },
+      shown.slice(0, MOST_LINES).map(lineShown)),
     shown.length > MOST_LINES ? text(`And ${many(shown.length - MOST_LINES, "more line")}.`) : null];
 }
 
