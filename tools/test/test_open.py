@@ -345,7 +345,12 @@ class Ends(unittest.TestCase):
     def test_the_end_waits_for_nothing_that_does_not_end(self) -> None:
         with mock.patch.object(runner, "LAST_SECONDS", 0.3), mock.patch.object(runner.Turn, "end", lambda turn: None):
             held = runner.Runner(shutil.which("sleep") or "", "", b"")
-            asked = quietly(lambda: held.answer(("stay", "", ""), ["sleep", "1000"], {}, "lane", 1000, {}))
+
+            def stay() -> None:
+                with held.turn("lane") as turn:
+                    held.answer(turn, ["sleep", "1000"], {}, 1000, {})
+
+            asked = quietly(stay)
             self.assertTrue(until(lambda: any(turn.child for turn in held.running)))
             held.close()
         self.assertTrue(asked.is_alive())
