@@ -6,7 +6,6 @@ The configurations are the program's: what `compile` writes of the policy that r
 """
 from __future__ import annotations
 
-import re
 from collections.abc import Callable, Iterator
 from dataclasses import dataclass
 from itertools import pairwise
@@ -48,8 +47,9 @@ def configurations(ask: Ask, topology: bytes, before: bytes, after: bytes) -> di
 
 
 def blocks(configuration: str) -> dict[str, str]:
-    """The block of each router."""
-    return {found[1]: found[0] for found in re.finditer(r"^router (\S+) .*?^end$", configuration, re.M | re.S)}
+    """The block of each router, from its first line to the line `end`. Before the first one are lines without the word `router`."""
+    parts = (part[part.index("router "):] for part in configuration.split("\nend\n")[:-1])
+    return {part.split(" ", 2)[1]: f"{part}\nend" for part in parts}
 
 
 def steps(texts: dict[Stage, str]) -> list[Told]:

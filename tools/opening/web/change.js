@@ -28,7 +28,8 @@ const NO_STAGES = {
 /** What the program says of the policy that runs and of the stages; `fault` is why there are none. */
 const held = { report: null, steps: null, fault: null };
 
-const faultOf = (said) => ({ ...said, place: null, of: NO_STAGES[said.command] ?? "There is no answer:" });
+/** What is said of a command that writes nothing. Only a verdict has words. */
+const faultOf = (said) => ({ ...said, place: null, of: said.words ? NO_STAGES[said.command] : "There is no answer:" });
 
 const isEdited = () => chosen.policy !== running.policy;
 
@@ -95,7 +96,7 @@ function nothingSaid() {
   if (!isEdited()) return "Edit the policy: then this shows how a running network goes over to it, stage by stage.";
   if (answers.fault) return "The edited policy isn't accepted.";
   if (!chosen.prefix) return "Choose a prefix.";
-  if (held.fault) return "There are no stages. What the program says of it stands below the policy.";
+  if (held.fault) return "There are no stages to show. Why stands below the policy.";
   return held.steps ? "" : "Asking …";
 }
 

@@ -121,9 +121,14 @@ class Change(Paged):
         self.assertEqual(self.said("#verdict"), "accepted")
         for line in "There are no stages from the policy that runs to this one:", "low pref 7", "docs/FORMATS.md, \"What is in the way\"":
             self.assertIn(line, self.said("#says"))
-        self.assertIn("There are no stages", self.said("#view"))
+        self.assertIn("There are no stages to show", self.said("#view"))
         self.click("[data-mode=routes]")
         self.assertEqual(self.said("#says"), "")
+
+    def test_no_answer_is_no_verdict(self) -> None:
+        self.edited(program=contrary(self.room, "between", "exit 6"))
+        self.assertIn("There is no answer:", self.said("#says"))
+        self.assertNotIn("from the policy that runs", self.said("#says"))
 
     def test_refused_policies(self) -> None:
         self.edited("true => exit(West) and start(SNVA) and through(;")
