@@ -1,12 +1,13 @@
 -- What the laws of mixtures ask of lines.
-use Rattle.std.proofs.Common.{ℕ, refl, inl, inr}
+use Rattle.std.proofs.Common.{ℕ, refl}
 use Rattle.net_base.specs.Network.{PlainNet}
 use Rattle.net_base.specs.Prefixes.{PlainPrefix, IsPrefix}
+use Rattle.rollout_base.specs.Lines.{AreApart}
 use Rattle.rollout_base.specs.Mixtures.{Part}
-use Rattle.rollout_base.specs.Stages.{IsOfRollout, IsRollout}
+use Rattle.rollout_base.specs.Stages.{IsRollout}
 use Rattle.rollout_law.proofs.Standing.{disjoint_tags_are_apart}
 use Rattle.rollout_mixtures.specs.Between.{IsBetween}
-use Rattle.rollout_mixtures.proofs.Parts.{part_is}
+use Rattle.rollout_mixtures.proofs.Parts.{first_is, new_is, old_is, second_is}
 use Rattle.evidence_renewal.proofs.Above.{above}
 use Rattle.evidence_renewal.proofs.Apart.{apart}
 use Rattle.evidence_renewal.proofs.Passing.{passing}
@@ -31,22 +32,22 @@ pub changes_are_above : ChangesAreAbove
 changes_are_above net p old new over r u v path way t s q k taken taken' =
     over.above k.1 q.1 (taken_pref net new.config p r v way s k taken') (taken_pref net old.config p r u path t q taken)
 
--- which of the four it is
-of_phase : (old new : Part) (s : Phase) → IsOfRollout old new (stage_one old new) (stage_two old new) (part_at old new s)
-of_phase old new phase.at_old = inl (inl refl)
-of_phase old new phase.at_one = inl (inr refl)
-of_phase old new phase.at_two = inr (inr refl)
-of_phase old new phase.at_new = inr (inl refl)
-
 module _ (net : PlainNet) (p : PlainPrefix) (old new : Part) (is : IsChange net old new) (over : TakesOver old new) (prefix : IsPrefix p) (r : ℕ)
   where
+    rollout : IsRollout net p old new (stage_one old new) (stage_two old new)
+    rollout = is.stages net old.policy new.policy p prefix
+
+    tags_apart : AreApart net p old new
+    tags_apart = changes_are_apart net p old new is over
+
     between_at : (s : Phase) → IsBetween net p old new r (part_at old new s)
-    between_at s =
-        let rollout : IsRollout net p old new (stage_one old new) (stage_two old new) = is.stages net old.policy new.policy p prefix in
-        let apart = changes_are_apart net p old new is over in
-        part_is net p old new (stage_one old new) (stage_two old new) rollout apart r (part_at old new s) (of_phase old new s)
+    between_at phase.at_old = old_is net p old new (stage_one old new) (stage_two old new) rollout tags_apart r
+    between_at phase.at_one = first_is net p old new (stage_one old new) (stage_two old new) rollout tags_apart r
+    between_at phase.at_two = second_is net p old new (stage_one old new) (stage_two old new) rollout tags_apart r
+    between_at phase.at_new = new_is net p old new (stage_one old new) (stage_two old new) rollout tags_apart r
 
     marked_at : (s : Phase) → IsMarked s (between_at s)
+    unfolding between_at old_is first_is second_is new_is
     marked_at phase.at_old = record { starts = refl; old_lines = refl; new_lines = refl }
     marked_at phase.at_one = record { starts = refl; old_lines = refl; new_lines = refl }
     marked_at phase.at_two = record { starts = refl; old_lines = refl; new_lines = refl }

@@ -9,7 +9,7 @@
 //!
 //! | Law | It says | It needs |
 //! |---|---|---|
-//! | `changes_are_safe` | at no moment is anything held or heard that neither policy allows, and the end is the new outcome; so it is back | `IsChange` |
+//! | `changes_are_safe` | nothing is ever held or heard that neither policy allows, and the end is the new outcome; and so back | `IsChange` |
 //! | `renewals_take_over` | what `renew` writes passes, and takes over | that it is renewed |
 //! | `changes_meet_premises` | tags are apart, preferences above, and each router is between old and new | and `TakesOver` |
 //! | `changes_come_to_rest` | in between, too, messages come to an end | and who announces |
