@@ -1,4 +1,5 @@
-//! A change of policy while the network runs, by configurations that `renew` and `between` write: laws without code.
+//! The laws of a change of policy by what `renew` and `between` write: nothing is held or heard on the way that neither policy
+//! allows, the network comes to rest in between, in two layers, and ends in the new one's outcome. There is no code.
 //!
 //! The laws of rollouts are said of lines, prefix by prefix: tags are apart, preferences are above, stages lie between. The commands
 //! promise words on whole texts: no tag stands in both, each preference that stands in the one is above each in the other, the four
@@ -20,7 +21,7 @@
 //!
 //! Compiling doesn't need it.
 //!
-//! It knows nothing of texts, commands, and how stages and renewed evidence are made.
+//! It knows nothing of texts, of commands, or of how stages and renewed evidence are made.
 #![tactic(auto)]
 
 ghost use Rattle.renewal_law.specs.Laws.{
