@@ -43,7 +43,7 @@ pub struct ReportedOutcome<'a> {
 }
 
 impl<'a> ReportedOutcome<'a> {
-    ghost use Rattle.outcome_claims.specs.Offers.{case_in, offered_in};
+    ghost use Rattle.outcome_claims.specs.Reported.{case_in, offered_in};
 
     /// An outcome under the failures of a scenario, with the case of its prefix.
     pub fn new(
