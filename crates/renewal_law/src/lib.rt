@@ -1,5 +1,5 @@
-//! The laws of a change of policy by what `renew` and `between` write: nothing is held or heard on the way that neither policy
-//! allows, the network comes to rest in between, in two layers, and ends in the new one's outcome. There is no code.
+//! The laws of a change of policy by what `renew` and `between` write: nothing forbidden on the way, rest in between in two layers,
+//! the new outcome in the end. There is no code.
 //!
 //! The laws of rollouts are said of lines, prefix by prefix: tags are apart, preferences are above, stages lie between. The commands
 //! promise words on whole texts: no tag stands in both, each preference that stands in the one is above each in the other, the four

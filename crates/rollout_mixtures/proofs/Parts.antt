@@ -49,13 +49,13 @@ module _ (net : PlainNet) (p : PlainPrefix) (x y : Part) (clash : (r : ℕ) (t :
   }
 
 module _ (net : PlainNet) (p : PlainPrefix) (x : Part) (r : ℕ) where
-  has_itself : HasLines net p x r x
+  pub has_itself : HasLines net p x r x
   has_itself = record { sent = λ z t gives. refl; taken = λ u path t from gives. refl }
 
-  starts_itself : HasStarts net p x r x
+  pub starts_itself : HasStarts net p x r x
   starts_itself = record { origin = refl; own = λ origin. refl; heard = λ u path t off. refl }
 
-  starts_stage : (y stage : PlainConfig) → IsStage net p x.config y stage → HasStarts net p x r (staged x stage)
+  pub starts_stage : (y stage : PlainConfig) → IsStage net p x.config y stage → HasStarts net p x r (staged x stage)
   starts_stage y stage is = record { origin = refl; own = λ origin. is.own r; heard = λ u path t off. is.heard r u path t off }
 
 module _ (net : PlainNet) (p : PlainPrefix) (old new : Part) (one two : PlainConfig) (is : IsRollout net p old new one two) (apart : AreApart net p old new) (r : ℕ) where
