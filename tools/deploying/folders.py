@@ -1,4 +1,8 @@
-"""The files of routers in a folder: written, and read back as maps, or as what drifted."""
+"""The files of routers in a folder: written, and read back as maps, or as what drifted.
+
+A file is read back by writing it again: maps are taken from the lines that are known, the file of these maps is written, and both are
+compared. So no grammar of BIRD, FRR or OpenBGPD is needed, and whatever else is in a file is reported.
+"""
 from __future__ import annotations
 
 import os

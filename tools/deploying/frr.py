@@ -2,6 +2,9 @@
 
 In a staged file the names of maps and of their lists end in a sum of what they all say. So maps of another file can stand beside them,
 unused until each is whole, and a session goes over to its new map by one line. docs/DEPLOY.md says what each line is for.
+
+A row that FRR would drop stands in a list of its own, under a name with its place. A remark would do as well, but its length has a bound,
+and a list that is read back has to be the one that was written, row by row.
 """
 from __future__ import annotations
 

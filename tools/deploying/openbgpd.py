@@ -2,6 +2,13 @@
 
 Of its rules the first with `quick` that has a route decides, and each `match` before it has marked the route. docs/DEPLOY.md says what
 each line is for, and what OpenBGPD can't say: that is refused.
+
+Routes of a list with exceptions are marked with a community of the file's own. A rule asks for a set, and never for what isn't in one. To
+write out what is left of a list without its exceptions would take up to 64 prefixes for each of them. Nobody can forge a mark, since all
+communities are washed off before, and peers of the lab try.
+
+What OpenBGPD can't say is refused entry by entry: a file that sent peers private AS numbers, or left an entry out, would be one for
+another policy.
 """
 from __future__ import annotations
 

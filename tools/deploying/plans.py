@@ -1,4 +1,17 @@
-"""All that one router's file says, whichever daemon loads it."""
+"""All that one router's file says, whichever daemon loads it.
+
+A tag is a large community (RFC 8092) with the middle part 0 on the routers too, so what routers show is read as it is. Ties go by
+identifier, whichever route came first, as in `replay`. The proof leaves ties free, and rest needs only that they are broken steadily.
+Files with another rule keep the policy too; then what is recorded can be judged, but not compared with `replay`.
+
+Tags are numbered anew by each compilation, so a router must not read those of a neighbour with older files: unless its configuration was
+made to take over from the old one (`renew`), a changed policy is loaded with new passwords. Numbers of editions in the tags would do as
+well, but would be one more thing that each reader of recorded routes has to know.
+
+Origins at which no path ends are told by the policy. The maps don't name them, and `evidence` and `promises` name no origin of a prefix
+that no statement governs. An `originate` item does, in the operator's own words. What the policy says isn't judged: a network of the maps
+that it doesn't have ends the run.
+"""
 from __future__ import annotations
 
 from collections.abc import Mapping, Sequence

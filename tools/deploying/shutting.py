@@ -1,4 +1,8 @@
-"""What taking a session out of service does, as the program says it: the words of tools/shut."""
+"""What taking a session out of service does, as the program says it: the words of tools/shut.
+
+A session is shut by a line in the file that refuses, and not by a community or a lower preference. Refusing is a dead link, which the
+claim covers at every moment. A lower preference would be another configuration.
+"""
 from __future__ import annotations
 
 import os

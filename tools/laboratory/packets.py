@@ -2,6 +2,8 @@
 
 A flow is a datagram of UDP from a port of its own. What leaves each router, and over which interface, is seen there; so the way of a
 flow is put together router by router. Nobody answers.
+
+Answers would tell less: nobody has a way back to a router's own address, and `traceroute` would see one flow.
 """
 from __future__ import annotations
 

@@ -1,4 +1,7 @@
-"""The scenarios of a run, one after another: what fails is made, and all questions are asked."""
+"""The scenarios of a run, one after another: what fails is made, and all questions are asked.
+
+What differs is asked again until the patience of the run ends, so that a slow machine fails none. A wrong file goes on differing.
+"""
 from __future__ import annotations
 
 import os

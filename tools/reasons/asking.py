@@ -1,4 +1,12 @@
-"""The way of tools/why: which statements are refused, why, and which repairs compile."""
+"""The way of tools/why: which statements are refused, why, and which repairs compile.
+
+A statement is compiled by itself by letting all others drop what they govern. So each prefix keeps its statement, its case and the case's
+number, and what is refused is refused because of this statement. Where each is accepted in this way and the policy isn't, all together go
+beyond the limit on steps.
+
+Two walks of a refusal that read alike lead to one node, and both are shown: what differs is the routes at that node, where one has come
+over the neighbour and another hasn't. It is asked whether their ranks are the same, but not whether they lead to one node.
+"""
 from __future__ import annotations
 
 import functools

@@ -1,4 +1,10 @@
-"""Asks the program for the cases of a policy, and for the ranks that walks have by an expression."""
+"""Asks the program for the cases of a policy, and for the ranks that walks have by an expression.
+
+Ranks of walks are asked of `lint`. The statement `EXPRESSION and path(WALK)` permits that walk alone, so exactly those of its
+alternatives that aren't the walk's rank are unreached. With further places `any` in front it permits the walks that end in this way. One
+text asks for many walks, each by a statement for a prefix of its own. This works where the policy is refused, and `impact` and `replay`
+say nothing.
+"""
 from __future__ import annotations
 
 import re

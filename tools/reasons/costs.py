@@ -3,6 +3,9 @@
 `given_up` alone is called from outside. It asks `promises` for the best rank of each claimed source, `replay` for the path that each
 then has and which rank that path had in the statement as it was, `impact` for what single cuts take away, and `lint` whether a path
 that was forbidden is allowed.
+
+What the statement could give as it was is said of paths. A walk may visit a router twice, so the best rank of a walk is only a bound. It
+is shown where a loop-free path has it, or where all paths were tried.
 """
 from __future__ import annotations
 

@@ -39,7 +39,7 @@ pub fn add_row(row: &mut [u64], other: &[u64])
     }
 }
 
-/// Sets in four words from `at` on the bits that the other row has there.
+// Sets in four words from `at` on the bits that the other row has there.
 fn add_lanes(row: &mut [u64], other: &[u64], at: usize)
     requires len { length other.now ≡ length row.old }
     requires room { at + 4 ≤ length row.old }
@@ -68,7 +68,7 @@ pub fn keep_row(row: &mut [u64], other: &[u64])
     }
 }
 
-/// Clears in four words from `at` on the bits that the other row doesn't have there.
+// Clears in four words from `at` on the bits that the other row doesn't have there.
 fn keep_lanes(row: &mut [u64], other: &[u64], at: usize)
     requires len { length other.now ≡ length row.old }
     requires room { at + 4 ≤ length row.old }
@@ -97,7 +97,7 @@ pub fn clear_row(row: &mut [u64], other: &[u64])
     }
 }
 
-/// Clears in four words from `at` on the bits that the other row has there.
+// Clears in four words from `at` on the bits that the other row has there.
 fn clear_lanes(row: &mut [u64], other: &[u64], at: usize)
     requires len { length other.now ≡ length row.old }
     requires room { at + 4 ≤ length row.old }
@@ -131,7 +131,7 @@ pub fn outside_is_empty(a: &[u64], b: &[u64], c: &[u64]) -> bool
     true
 }
 
-/// Whether in four words from `at` on each bit that is set in the first two rows is set in the third.
+// Whether in four words from `at` on each bit that is set in the first two rows is set in the third.
 fn lanes_are_inside(a: &[u64], b: &[u64], c: &[u64], at: usize) -> bool
     requires b { length b.now ≡ length a.now }
     requires c { length c.now ≡ length a.now }

@@ -17,7 +17,7 @@ pub fn add_members(row: &[u64], list: &mut Vec<u32>) -> Result<(), AllocError>
     Ok(())
 }
 
-/// Lists the bits that are set in the word at this place.
+// Lists the bits that are set in the word at this place.
 fn add_members_of_word(place: usize, word: u64, list: &mut Vec<u32>) -> Result<(), AllocError>
     requires { 64 * place + 64 ≤ 2 ^ 32 }
     ensures { OnOk result ((k : ℕ) → list_any (λ x. x == k) list.new.items ≡ (list_any (λ x. x == k) list.old.items || (k / 64 == place && bit_at word (k % 64) == 1))) }

@@ -5,7 +5,7 @@ use smallvec::SmallVec;
 use std::alloc::{AllocError, Global};
 use std::marker::Model;
 
-/// As many nodes as lie in the list itself: as many neighbours as most nodes have.
+// As many nodes as lie in the list itself: as many neighbours as most nodes have.
 const SHORT: usize = 6;
 
 /// Nodes of a graph by their numbers, in the order in which they were put. A short list takes no memory but its own.

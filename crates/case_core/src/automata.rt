@@ -27,7 +27,7 @@ pub struct StatementAutomata {
     pub(crate) nodes: usize,
 }
 
-/// The expressions of a statement's alternatives.
+// The expressions of a statement's alternatives.
 fn expressions_of(
     alloc: Global,
     net: &Net,
@@ -46,7 +46,7 @@ fn expressions_of(
     }
 }
 
-/// A new automaton of a case's statement, which has served no node yet.
+// A new automaton of a case's statement, which has served no node yet.
 fn new_automata(
     alloc: Global,
     net: &Net,
@@ -68,7 +68,7 @@ fn new_automata(
     })
 }
 
-/// The automaton that is kept, where it is of the case's statement and has served few nodes.
+// The automaton that is kept, where it is of the case's statement and has served few nodes.
 fn serving(kept: Option<StatementAutomata>, case: &Case) -> Option<StatementAutomata>
     ensures kept { IfSome result (λ given. kept ≡ Some given) }
     ensures statement { IfSome result (λ given. given.statement ≡ case.now.statement) }

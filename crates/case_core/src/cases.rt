@@ -28,11 +28,13 @@ use std::alloc::Global;
 /// The graph of a case, and how many steps it had before it was trimmed.
 #[derive(Drop)]
 pub struct CaseGraph {
+    /// The graph, trimmed to the nodes that lead to a ranked one.
     pub graph: Graph,
+    /// How many steps the graph had before it was trimmed, at most as many as there was room for.
     pub used: u32,
 }
 
-/// The graph that is built of a case by the automaton of its statement, which is given back.
+// The graph that is built of a case by the automaton of its statement, which is given back.
 fn built(
     alloc: Global,
     net: &Net,
@@ -56,8 +58,8 @@ fn built(
     }
 }
 
-/// The refusal of a router at which a node has a rank and another one has none: with the walks by which
-/// these nodes are shown.
+// The refusal of a router at which a node has a rank and another one has none: with the walks by which
+// these nodes are shown.
 fn mixed_source(
     alloc: Global,
     number: u32,
@@ -74,7 +76,7 @@ fn mixed_source(
     Ok(CompileRefusal::MixedSource(number, mixed.router, with, without))
 }
 
-/// Judges the sources of a case by the nodes at them.
+// Judges the sources of a case by the nodes at them.
 fn judged(
     alloc: Global,
     net: &Net,
@@ -102,15 +104,15 @@ fn judged(
     Ok(())
 }
 
-/// The automaton that was given back with a graph.
+// The automaton that was given back with a graph.
 fn automaton_of(given: (Graph, Automata)) -> Automata
     ensures { result ≡ given.1 }
 {
     given.1
 }
 
-/// The graph of a case with its statement, its sources not judged, and the automaton for the statement's next case, or which
-/// limit the case passes.
+// The graph of a case with its statement, its sources not judged, and the automaton for the statement's next case, or which
+// limit the case passes.
 fn trimmed_of(
     alloc: Global,
     net: &Net,
@@ -140,7 +142,7 @@ fn trimmed_of(
     Ok((CaseGraph { graph, used }, next))
 }
 
-/// The case with this number, from 1, and its statement.
+// The case with this number, from 1, and its statement.
 fn case_of<'a>(policy: &'a Policy, cases: &'a CaseList, number: u32) -> (&'a Case, &'a Statement)
     requires cases { (net : PlainNet) × (cases.now.cases ≡ case_list net (policy_of policy.now)) }
     requires from_one { 1 ≤ number }

@@ -9,11 +9,13 @@ use std::alloc::{AllocError, Global};
 /// The first node at a router that has a rank, and the first one that has none.
 #[derive(Clone, Copy)]
 pub struct Firsts {
+    /// The number of the first node with a rank, from 0, if there is one.
     pub ranked: Option<u32>,
+    /// The number of the first node without a rank, from 0, if there is one.
     pub unranked: Option<u32>,
 }
 
-/// The first one, or else this number where it is one.
+// The first one, or else this number where it is one.
 fn first_or(first: Option<u32>, is_one: bool, number: u32) -> Option<u32>
     ensures { result ≡ or_else first is_one number }
 {
@@ -24,7 +26,7 @@ fn first_or(first: Option<u32>, is_one: bool, number: u32) -> Option<u32>
     }
 }
 
-/// The first ones after one more node, with this number.
+// The first ones after one more node, with this number.
 fn with_node(firsts: Firsts, node: Node, number: u32) -> Firsts
     ensures { result ≡ record { ranked = or_else firsts.ranked (is_some node.rank) number; unranked = or_else firsts.unranked (is_none node.rank) number } }
 {

@@ -20,7 +20,7 @@ pub struct KeptAutomata {
     pub(crate) of: Vec<Option<StatementAutomata>>,
 }
 
-/// So many places without an automaton.
+// So many places without an automaton.
 fn no_automata(alloc: Global, count: usize) -> Result<Vec<Option<StatementAutomata>>, AllocError>
     ensures { IfOk result (λ all. all.items ≡ replicate count None) }
 {

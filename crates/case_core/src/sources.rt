@@ -10,7 +10,7 @@ use crate::firsts::Firsts;
 use net_base::{Loc, LocSet};
 use policy_base::FromSet;
 
-/// Whether a `from` set names the location, and not by `any`.
+// Whether a `from` set names the location, and not by `any`.
 fn names(from: &FromSet, at: Loc) -> bool
     ensures { result ≡ names_of from.now at }
 {
@@ -37,12 +37,15 @@ pub fn without_path(from: &FromSet, origins: &LocSet, table: &[Firsts]) -> Optio
 /// A router at which a node has a rank and another one has none, with the first of each.
 #[derive(Clone, Copy)]
 pub struct Mixed {
+    /// The router.
     pub router: Loc,
+    /// The number of the first node with a rank there, from 0.
     pub ranked: u32,
+    /// The number of the first node without a rank there, from 0.
     pub unranked: u32,
 }
 
-/// The router with its first nodes, where there is one of each.
+// The router with its first nodes, where there is one of each.
 fn mixed_at(router: Loc, firsts: Firsts) -> Option<Mixed>
     ensures { MatchOption result (IsNotMixed firsts) (λ mixed. IsMixedRow router firsts mixed) }
 {

@@ -23,13 +23,16 @@ use std::alloc::Global;
 /// before it was trimmed and joined, and a preference number for each of its nodes.
 #[derive(Drop)]
 pub struct AcceptedCase {
+    /// The quotient of the trimmed graph.
     pub graph: Graph,
+    /// How many steps the graph had before it was trimmed, at most as many as there was room for.
     pub used: u32,
+    /// A preference number for each node of the graph.
     pub prefs: Prefs,
 }
 
-/// The graph of the case with this number, and numbers for its nodes that meet the rules of evidence, or the
-/// refusal that there are none, with the lines that show it.
+// The graph of the case with this number, and numbers for its nodes that meet the rules of evidence, or the
+// refusal that there are none, with the lines that show it.
 fn numbered(
     alloc: Global,
     net: &Net,

@@ -29,9 +29,13 @@ pub enum Says {
 /// A line: its class, which router's block it stands in, from 0, and which of the router's neighbours it is about, from 1, or 0.
 #[derive(Clone, Copy, Debug, PartialEq, Eq)]
 pub struct ClassLine {
+    /// The number of its class, from 1.
     pub class: u32,
+    /// The place, from 0, of the router in whose block it stands.
     pub router: usize,
+    /// The place, from 1, of the neighbour that it is about, or 0 for a line of the router alone.
     pub neighbour: usize,
+    /// What it says.
     pub says: Says,
 }
 

@@ -1,4 +1,5 @@
-//! The lines of a configuration, class by class, and what two classes of two configurations have in common.
+//! The lines of a configuration class by class, each with its place; when two classes have the same lines in every block; the tags that
+//! stand in both, and the preferences of one that aren't above those of the other.
 //!
 //! The lines of a class stand in the blocks of all routers. Here they are put together: each with its class, its place (the router's
 //! block, and which neighbour's block in it) and what it says. So two classes have the same lines in every block exactly where their
@@ -12,7 +13,9 @@
 //! A table sorts the lines by class once. Then a class is found by two searches, and comparing two classes takes no longer than the
 //! shorter one.
 //!
-//! Nothing here knows what classes have to do with each other, or what a stage is.
+//! `between` alone needs it.
+//!
+//! It knows nothing of what classes have to do with each other, and of stages.
 #![tactic(auto)]
 
 mod class_line;

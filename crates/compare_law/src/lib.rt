@@ -1,4 +1,5 @@
-//! What decides whether two policies say the same, and what follows where they do, or where one takes nothing away: laws without code.
+//! The laws of two policies over one network: what decides whether they say the same of a prefix, and what follows where they
+//! do, or where one takes nothing away. There is no code.
 //!
 //! What a policy says of a prefix depends on the statement and the origins alone (`proofs/Cases`), and two policies say the same of it
 //! exactly where the origins are the same and the rows of each place agree (`proofs/Rows`): each walk that either permits begins at a place.
@@ -14,7 +15,9 @@
 //! wherever it has one in the old, whatever has failed, and where ranks only get less, its best one gets no greater. A path that is lost
 //! shows failures under which its source has none (`proofs/Lost`).
 //!
-//! Nothing here knows how the walks of two policies are compared.
+//! Compiling doesn't need it.
+//!
+//! It knows nothing of graphs, evidence, or how policies are compared.
 #![tactic(auto)]
 
 ghost use Rattle.compare_law.specs.Laws.{AlikePrefixesAreRightAlike, AlikePrefixesAreStableAlike, CasesDecide, FirstWalksAreOne, LostPathsShowFailures, NothingLostStaysInReach, NothingSaidIsAlike, PairsDecide, RanksGetNoGreater, RowsDecide, SamePoliciesAreServedAlike};

@@ -17,11 +17,13 @@ use std::alloc::{AllocError, Global};
 /// Whether routers carry in the old policy alone, or in the new one alone.
 #[derive(Clone, Copy)]
 pub enum Carrying {
+    /// In the old policy alone.
     Lost,
+    /// In the new policy alone.
     Gained,
 }
 
-/// The routers of a pair that carry in one policy alone.
+// The routers of a pair that carry in one policy alone.
 fn carriers(which: Carrying, pair: &ComparedPair) -> &[Loc]
     ensures { result.now ≡ carriers_of which pair.now }
 {
@@ -31,7 +33,7 @@ fn carriers(which: Carrying, pair: &ComparedPair) -> &[Loc]
     }
 }
 
-/// Whether a pair has such routers.
+// Whether a pair has such routers.
 fn has_carriers(which: Carrying, pair: &ComparedPair) -> bool
     ensures { result ≡ has_carriers_in which pair.now }
 {
@@ -73,7 +75,7 @@ pub fn split_by_carriers<'a>(
     Ok(Split { these, others })
 }
 
-/// Puts routers into a set of places.
+// Puts routers into a set of places.
 fn add_routers(set: &mut IndexSet<Place>, routers: &[Loc]) -> Result<(), NoMemory>
     ensures { OnOk result ((r : ℕ) → contains same_place set.new (router_place r) ≡ (contains same_place set.old (router_place r) || list_any (λ l. l == r) routers.now)) }
 {

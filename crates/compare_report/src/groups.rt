@@ -41,14 +41,14 @@ pub fn origins_stay(cases: &CasePair) -> bool
     cases.old.origins == cases.new.origins
 }
 
-/// Whether two pairs have the same two statements.
+// Whether two pairs have the same two statements.
 fn same_statements(one: &CasePair, other: &CasePair) -> bool
     ensures { result ≡ same_statements_in one.now other.now }
 {
     one.old.statement == other.old.statement && one.new.statement == other.new.statement
 }
 
-/// Whether the origins of two pairs change in the same way.
+// Whether the origins of two pairs change in the same way.
 fn move_alike(one: &CasePair, other: &CasePair) -> bool
     ensures { result ≡ move_alike_in one.now other.now }
 {
@@ -57,7 +57,7 @@ fn move_alike(one: &CasePair, other: &CasePair) -> bool
             || (one.new.origins.is_none() && other.new.origins.is_none()))
 }
 
-/// Whether two pairs are told as one change.
+// Whether two pairs are told as one change.
 fn same_group(one: &CasePair, other: &CasePair) -> bool
     ensures { result ≡ same_group_in one.now other.now }
 {
@@ -108,7 +108,7 @@ pub fn add_prefixes(set: &mut IndexSet<Prefix>, prefixes: &[Prefix]) -> Result<(
     Ok(())
 }
 
-/// Puts the originated prefixes of a pair into a set.
+// Puts the originated prefixes of a pair into a set.
 fn add_pair(set: &mut IndexSet<Prefix>, prefixes: &PairPrefixes) -> Result<(), NoMemory>
     ensures { OnOk result ((p : PlainPrefix) → contains same_prefix set.new p ≡ (contains same_prefix set.old p || is_among p prefixes.now)) }
 {
@@ -118,7 +118,7 @@ fn add_pair(set: &mut IndexSet<Prefix>, prefixes: &PairPrefixes) -> Result<(), N
     }
 }
 
-/// The originated prefixes of some pairs, as a set.
+// The originated prefixes of some pairs, as a set.
 #[tactic(auto, using(crate::proofs::Borrowed::seen_next, crate::proofs::Borrowed::seen_push))]
 fn prefix_set(alloc: Global, group: &[&ComparedPair]) -> Result<IndexSet<Prefix>, NoMemory>
     ensures { IfOk result (λ set. (p : PlainPrefix) → contains same_prefix set p ≡ list_any (λ (x : PlainPair). is_among p x.pair.prefixes) (seen group.now)) }
@@ -130,7 +130,7 @@ fn prefix_set(alloc: Global, group: &[&ComparedPair]) -> Result<IndexSet<Prefix>
     Ok(set)
 }
 
-/// Whether the set of the originated prefixes of some pairs has this one.
+// Whether the set of the originated prefixes of some pairs has this one.
 fn has_prefix(group: &[&ComparedPair], set: &IndexSet<Prefix>, prefix: Prefix) -> bool
     requires { (p : PlainPrefix) → contains same_prefix set.now p ≡ list_any (λ (x : PlainPair). is_among p x.pair.prefixes) (seen group.now) }
     ensures { result ≡ list_any (λ (x : PlainPair). is_among prefix x.pair.prefixes) (seen group.now) }
@@ -138,7 +138,7 @@ fn has_prefix(group: &[&ComparedPair], set: &IndexSet<Prefix>, prefix: Prefix) -
     set.contains(&prefix)
 }
 
-/// The originated prefixes of some pairs, in order.
+// The originated prefixes of some pairs, in order.
 fn prefixes_of(
     alloc: Global,
     order: &[Prefix],
@@ -175,7 +175,7 @@ pub fn push_prefixes(
     }
 }
 
-/// Adds the lines of some prefixes, or of the others where they are fewer.
+// Adds the lines of some prefixes, or of the others where they are fewer.
 fn push_fewer(text: &mut Vec<u8>, these: &[Prefix], others: &[Prefix]) -> Result<(), NoMemory>
     ensures { OnOk result (text.new.items ≡ text.old.items ++ fewer_lines these.now others.now) }
 {

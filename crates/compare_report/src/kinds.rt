@@ -28,7 +28,7 @@ use net_base::{List, Loc};
 use policy_base::is_loop_free;
 use std::alloc::{AllocError, Global};
 
-/// Whether two places differ in the same words.
+// Whether two places differ in the same words.
 fn same_words(one: Words, other: Words) -> bool
     ensures { result ≡ same_words_in one other }
 {
@@ -52,21 +52,21 @@ fn same_words(one: Words, other: Words) -> bool
     }
 }
 
-/// Whether these are the same rows.
+// Whether these are the same rows.
 fn same_rows(one: &[Row], other: &[Row]) -> bool
     ensures { result ≡ pointwise same_row one.now other.now }
 {
     one == other
 }
 
-/// Whether two kinds have the same words and rows.
+// Whether two kinds have the same words and rows.
 fn same_kind(one: &Kind, other: &Kind) -> bool
     ensures { result ≡ same_kind_in one.now other.now }
 {
     same_words(one.words, other.words) && same_rows(one.rows.as_slice(), other.rows.as_slice())
 }
 
-/// Whether some place of a pair differs in this way.
+// Whether some place of a pair differs in this way.
 fn has_kind(kind: &Kind, pair: &ComparedPair) -> bool
     ensures { result ≡ has_kind_in kind.now pair.now }
 {
@@ -93,7 +93,9 @@ pub fn some_has_kind(group: &[&ComparedPair], kind: &Kind) -> bool
 /// The pairs of which something is so, and the others, in order.
 #[derive(Drop)]
 pub struct Split<'a> {
+    /// The pairs of which it is so.
     pub these: Vec<&'a ComparedPair>,
+    /// The other pairs.
     pub others: Vec<&'a ComparedPair>,
 }
 
@@ -119,7 +121,7 @@ pub fn split_by_kind<'a>(
     Ok(Split { these, others })
 }
 
-/// Puts places into a set.
+// Puts places into a set.
 fn add_places(set: &mut IndexSet<Place>, places: &[Place]) -> Result<(), NoMemory>
     ensures { OnOk result ((q : PlainPlace) → contains same_place set.new q ≡ (contains same_place set.old q || list_any (λ p. same_place p q) places.now)) }
 {
@@ -129,7 +131,7 @@ fn add_places(set: &mut IndexSet<Place>, places: &[Place]) -> Result<(), NoMemor
     Ok(())
 }
 
-/// Puts the places of the kinds that are the same as this one into a set.
+// Puts the places of the kinds that are the same as this one into a set.
 fn add_kinds(set: &mut IndexSet<Place>, kind: &Kind, kinds: &[Kind]) -> Result<(), NoMemory>
     ensures { OnOk result ((q : PlainPlace) → contains same_place set.new q ≡ (contains same_place set.old q || list_any (has_place kind.now q) kinds.now)) }
 {
@@ -157,7 +159,7 @@ pub fn place_set(
     Ok(set)
 }
 
-/// How many walks have no loop.
+// How many walks have no loop.
 fn paths(walks: &[List<Loc>]) -> usize
     ensures { result ≡ count_by loop_free walks.now }
 {
@@ -170,7 +172,7 @@ fn paths(walks: &[List<Loc>]) -> usize
     count
 }
 
-/// The first walks, unless the others have more without a loop.
+// The first walks, unless the others have more without a loop.
 fn more_paths<'a>(walks: &'a [List<Loc>], others: &'a [List<Loc>]) -> &'a [List<Loc>]
     ensures { result.now ≡ with_more_paths walks.now others.now }
 {
@@ -181,7 +183,7 @@ fn more_paths<'a>(walks: &'a [List<Loc>], others: &'a [List<Loc>]) -> &'a [List<
     }
 }
 
-/// The first of these walks and those by which the kinds show this one that has most paths.
+// The first of these walks and those by which the kinds show this one that has most paths.
 fn more_in<'a>(walks: &'a [List<Loc>], kind: &Kind, kinds: &'a [Kind]) -> &'a [List<Loc>]
     ensures { result.now ≡ with_more_paths walks.now (walks_of_kinds kind.now kinds.now) }
 {

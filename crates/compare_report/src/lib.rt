@@ -1,4 +1,5 @@
-//! The text of a comparison of two policies over one network.
+//! The text of a comparison of two policies over one network: which pairs of cases are one change, for which of its prefixes
+//! and for whom each difference is, the walks that show it, and who carries in one policy alone.
 //!
 //! What is told is a list of pairs of cases, each with its prefixes and with what changes for these (`comparison`). `specs/Changes` is the text
 //! of such a list. Pairs of originated prefixes that have the same two statements, and whose origins change in the same way, are one change
@@ -9,7 +10,12 @@
 //! The code goes over the pairs in order, and tells a group at its first one. Within a group the places of pairs stand for the pairs
 //! themselves, so nothing is copied. Sets of prefixes and of places are looked up by their hashes.
 //!
-//! Nothing here knows graphs, nor how pairs and their rows are found.
+//! A reader begins with `compare_text`. That a text tells that nothing has changed exactly where nothing has is
+//! `texts_tell_whether_something_changed`.
+//!
+//! No command needs it yet.
+//!
+//! It knows nothing of graphs, or of how pairs and rows are found.
 #![tactic(auto)]
 
 mod carriers;

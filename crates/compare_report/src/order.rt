@@ -14,7 +14,7 @@ use net_base::Prefix;
 use policy_base::{Origin, Policy};
 use std::alloc::Global;
 
-/// Adds the prefixes of these items.
+// Adds the prefixes of these items.
 fn push_all(list: &mut Vec<Prefix>, origins: &[Origin]) -> Result<(), NoMemory>
     ensures { OnOk result (list.new.items ≡ list.old.items ++ prefixes_in origins.now) }
 {
@@ -24,7 +24,7 @@ fn push_all(list: &mut Vec<Prefix>, origins: &[Origin]) -> Result<(), NoMemory>
     Ok(())
 }
 
-/// Whether the set of these prefixes has this one.
+// Whether the set of these prefixes has this one.
 fn is_there(before: &[Prefix], set: &IndexSet<Prefix>, prefix: Prefix) -> bool
     requires { (p : PlainPrefix) → contains same_prefix set.now p ≡ list_any (λ q. same_prefix q p) before.now }
     ensures { result ≡ list_any (λ q. same_prefix q prefix) before.now }
@@ -32,7 +32,7 @@ fn is_there(before: &[Prefix], set: &IndexSet<Prefix>, prefix: Prefix) -> bool
     set.contains(&prefix)
 }
 
-/// Those of some prefixes that aren't among these, of which this is the set.
+// Those of some prefixes that aren't among these, of which this is the set.
 fn others(
     alloc: Global,
     before: &[Prefix],
@@ -51,7 +51,7 @@ fn others(
     Ok(list)
 }
 
-/// Adds prefixes.
+// Adds prefixes.
 fn push_more(list: &mut Vec<Prefix>, prefixes: &[Prefix]) -> Result<(), NoMemory>
     ensures { OnOk result (list.new.items ≡ list.old.items ++ prefixes.now) }
 {
@@ -59,7 +59,7 @@ fn push_more(list: &mut Vec<Prefix>, prefixes: &[Prefix]) -> Result<(), NoMemory
     Ok(())
 }
 
-/// The prefixes that the new policy originates, and not the old one, which originates these.
+// The prefixes that the new policy originates, and not the old one, which originates these.
 fn new_alone(alloc: Global, before: &[Prefix], new: &Policy) -> Result<Vec<Prefix>, NoMemory>
     ensures { IfOk result (λ list. list.items ≡ filter (λ p. not (list_any (λ q. same_prefix q p) before.now)) (prefixes_in (policy_of new.now).origins)) }
 {

@@ -20,7 +20,7 @@ use net_base::{LocSet, Net};
 use std::alloc::Global;
 use text_parts::push_bytes;
 
-/// A set with the routers that are origins, where routers are.
+// A set with the routers that are origins, where routers are.
 fn with_origins(set: LocSet, origins: Option<LocSet>) -> LocSet
     ensures { result ≡ with_origins_of set origins }
 {
@@ -30,7 +30,7 @@ fn with_origins(set: LocSet, origins: Option<LocSet>) -> LocSet
     }
 }
 
-/// The routers that are origins in the old policy for some of these pairs.
+// The routers that are origins in the old policy for some of these pairs.
 #[tactic(auto, using(crate::proofs::Borrowed::seen_next, crate::proofs::Borrowed::seen_push))]
 fn old_origins(group: &[&ComparedPair]) -> LocSet
     ensures { result ≡ old_origins_of (seen group.now) }
@@ -42,7 +42,7 @@ fn old_origins(group: &[&ComparedPair]) -> LocSet
     set
 }
 
-/// The routers that are origins in the new policy for some of these pairs.
+// The routers that are origins in the new policy for some of these pairs.
 #[tactic(auto, using(crate::proofs::Borrowed::seen_next, crate::proofs::Borrowed::seen_push))]
 fn new_origins(group: &[&ComparedPair]) -> LocSet
     ensures { result ≡ new_origins_of (seen group.now) }
@@ -54,7 +54,7 @@ fn new_origins(group: &[&ComparedPair]) -> LocSet
     set
 }
 
-/// Adds a line for the peers, where they are the origins and the network has some.
+// Adds a line for the peers, where they are the origins and the network has some.
 fn push_peers(
     text: &mut Vec<u8>,
     net: &Net,
@@ -76,7 +76,7 @@ fn push_peers(
     }
 }
 
-/// Adds the lines of origins that are the same in both policies.
+// Adds the lines of origins that are the same in both policies.
 fn push_kept(
     alloc: Global,
     text: &mut Vec<u8>,
@@ -91,7 +91,7 @@ fn push_kept(
     push_set(alloc, text, net, b"origins ", &set)
 }
 
-/// Adds the lines of origins that change.
+// Adds the lines of origins that change.
 fn push_moved(
     alloc: Global,
     text: &mut Vec<u8>,

@@ -31,7 +31,7 @@ use input_output::NoMemory;
 use net_base::{Loc, LocSet, Net};
 use std::alloc::{AllocError, Global};
 
-/// Whether a location is among these origins, or is a peer where they are all peers.
+// Whether a location is among these origins, or is a peer where they are all peers.
 fn is_origin(net: &Net, origins: Option<LocSet>, at: Loc) -> bool
     ensures { result ≡ is_origin_by net.now origins at }
 {
@@ -41,7 +41,7 @@ fn is_origin(net: &Net, origins: Option<LocSet>, at: Loc) -> bool
     }
 }
 
-/// Whether a router is a place of a pair: it is an origin in neither policy.
+// Whether a router is a place of a pair: it is an origin in neither policy.
 fn is_place(net: &Net, cases: &CasePair, router: Loc) -> bool
     ensures { result ≡ is_place_of net.now cases.now router None }
 {
@@ -50,7 +50,7 @@ fn is_place(net: &Net, cases: &CasePair, router: Loc) -> bool
         && !is_origin(net, cases.new.origins, router)
 }
 
-/// Whether a router is a place of one of these pairs.
+// Whether a router is a place of one of these pairs.
 #[tactic(auto, using(crate::proofs::Borrowed::seen_next, crate::proofs::Borrowed::seen_push))]
 fn is_router_place(net: &Net, group: &[&ComparedPair], router: Loc) -> bool
     ensures { result ≡ is_router_place_in net.now (seen group.now) router }
@@ -63,7 +63,7 @@ fn is_router_place(net: &Net, group: &[&ComparedPair], router: Loc) -> bool
     false
 }
 
-/// Whether the sessions are places of one of these pairs.
+// Whether the sessions are places of one of these pairs.
 #[tactic(auto, using(crate::proofs::Borrowed::seen_next, crate::proofs::Borrowed::seen_push))]
 fn have_sessions(group: &[&ComparedPair]) -> bool
     ensures { result ≡ have_sessions_in (seen group.now) }
@@ -76,7 +76,7 @@ fn have_sessions(group: &[&ComparedPair]) -> bool
     false
 }
 
-/// The routers that are places of these pairs.
+// The routers that are places of these pairs.
 fn router_places(alloc: Global, net: &Net, group: &[&ComparedPair]) -> Result<Vec<Loc>, AllocError>
     ensures { IfOk result (λ places. places.items ≡ router_places_in net.now (seen group.now)) }
 {
@@ -90,7 +90,7 @@ fn router_places(alloc: Global, net: &Net, group: &[&ComparedPair]) -> Result<Ve
     Ok(places)
 }
 
-/// Whether the set of the places of these pairs that differ in this way has this one.
+// Whether the set of the places of these pairs that differ in this way has this one.
 fn differs_at(
     group: &[&ComparedPair],
     kind: &Kind,
@@ -104,7 +104,7 @@ fn differs_at(
     set.contains(&Place { router, peer })
 }
 
-/// Those of some routers that differ in this way.
+// Those of some routers that differ in this way.
 fn these_routers(
     alloc: Global,
     group: &[&ComparedPair],
@@ -124,7 +124,7 @@ fn these_routers(
     Ok(list)
 }
 
-/// Those of some routers that don't differ in this way.
+// Those of some routers that don't differ in this way.
 fn other_routers(
     alloc: Global,
     group: &[&ComparedPair],
@@ -144,7 +144,7 @@ fn other_routers(
     Ok(list)
 }
 
-/// Whether the set of the routers of these pairs that carry in one policy alone has this one.
+// Whether the set of the routers of these pairs that carry in one policy alone has this one.
 fn carries(group: &[&ComparedPair], which: Carrying, set: &IndexSet<Place>, router: Loc) -> bool
     requires { (r : ℕ) → contains same_place set.now (router_place r) ≡ is_carrier which (seen group.now) r }
     ensures { result ≡ is_carrier which (seen group.now) router }
@@ -152,7 +152,7 @@ fn carries(group: &[&ComparedPair], which: Carrying, set: &IndexSet<Place>, rout
     set.contains(&Place { router, peer: None })
 }
 
-/// Those of some routers that carry in one policy alone.
+// Those of some routers that carry in one policy alone.
 fn these_carriers(
     alloc: Global,
     group: &[&ComparedPair],
@@ -172,7 +172,7 @@ fn these_carriers(
     Ok(list)
 }
 
-/// Those of some routers that don't.
+// Those of some routers that don't.
 fn other_carriers(
     alloc: Global,
     group: &[&ComparedPair],
@@ -192,7 +192,7 @@ fn other_carriers(
     Ok(list)
 }
 
-/// The routers that are places of these pairs: those that carry in one policy alone, and the others.
+// The routers that are places of these pairs: those that carry in one policy alone, and the others.
 fn carriers_of(
     alloc: Global,
     net: &Net,
@@ -223,14 +223,14 @@ pub fn push_carrier_places(
     push_routers(text, net, b"", &parts.these, &parts.others)
 }
 
-/// Sessions of which something is so, and the others, in order.
+// Sessions of which something is so, and the others, in order.
 #[derive(Drop)]
 struct SessionParts {
     these: Vec<(Loc, Loc)>,
     others: Vec<(Loc, Loc)>,
 }
 
-/// Those of some sessions that differ in this way.
+// Those of some sessions that differ in this way.
 fn these_sessions(
     alloc: Global,
     group: &[&ComparedPair],
@@ -250,7 +250,7 @@ fn these_sessions(
     Ok(list)
 }
 
-/// Those of some sessions that don't.
+// Those of some sessions that don't.
 fn other_sessions(
     alloc: Global,
     group: &[&ComparedPair],
@@ -270,7 +270,7 @@ fn other_sessions(
     Ok(list)
 }
 
-/// The sessions of the network that differ in this way, and the others.
+// The sessions of the network that differ in this way, and the others.
 fn sessions_parted(
     alloc: Global,
     net: &Net,
@@ -288,7 +288,7 @@ fn sessions_parted(
     Ok(SessionParts { these, others })
 }
 
-/// Adds the line of the sessions that differ in this way, where the sessions are places of these pairs.
+// Adds the line of the sessions that differ in this way, where the sessions are places of these pairs.
 fn push_differing_sessions(
     alloc: Global,
     text: &mut Vec<u8>,
@@ -304,7 +304,7 @@ fn push_differing_sessions(
     push_sessions(text, net, &parts.these, &parts.others)
 }
 
-/// The routers that are places of these pairs: those that differ in this way, and the others.
+// The routers that are places of these pairs: those that differ in this way, and the others.
 fn routers_parted(
     alloc: Global,
     net: &Net,

@@ -8,7 +8,7 @@ use input_output::NoMemory;
 use net_base::Prefix;
 use text_parts::{push_bytes, push_pattern, push_prefix};
 
-/// Adds the last of the prefixes of a line, where it isn't the first.
+// Adds the last of the prefixes of a line, where it isn't the first.
 #[tactic(auto, unfolding(crate::specs::Parts::last_text))]
 fn push_last(text: &mut Vec<u8>, first: Prefix, last: Prefix) -> Result<(), NoMemory>
     ensures { OnOk result (text.new.items ≡ text.old.items ++ last_text first last) }
@@ -20,7 +20,7 @@ fn push_last(text: &mut Vec<u8>, first: Prefix, last: Prefix) -> Result<(), NoMe
     push_prefix(text, last)
 }
 
-/// Adds a line for the prefixes from one to another.
+// Adds a line for the prefixes from one to another.
 #[tactic(auto, unfolding(crate::specs::Parts::run_line))]
 fn push_run(text: &mut Vec<u8>, word: &[u8], first: Prefix, last: Prefix) -> Result<(), NoMemory>
     ensures { OnOk result (text.new.items ≡ text.old.items ++ run_line word.now first last) }
@@ -31,7 +31,7 @@ fn push_run(text: &mut Vec<u8>, word: &[u8], first: Prefix, last: Prefix) -> Res
     push_bytes(text, b"\n")
 }
 
-/// Whether a prefix follows another one without a gap, at the same length.
+// Whether a prefix follows another one without a gap, at the same length.
 fn follows(prefix: Prefix, next: Prefix) -> bool
     ensures { result ≡ follows_on prefix next }
 {
@@ -41,7 +41,7 @@ fn follows(prefix: Prefix, next: Prefix) -> bool
         && (bits > 0 && u64::from(bits - 1) >> cut == u64::from(prefix.bits()) >> cut)
 }
 
-/// Adds the lines of prefixes, of which this is the first.
+// Adds the lines of prefixes, of which this is the first.
 fn push_runs_from(
     text: &mut Vec<u8>,
     word: &[u8],
@@ -72,7 +72,7 @@ pub fn push_runs(text: &mut Vec<u8>, word: &[u8], prefixes: &[Prefix]) -> Result
     }
 }
 
-/// Adds the least prefix of two first patterns, where it isn't the base of what both contain.
+// Adds the least prefix of two first patterns, where it isn't the base of what both contain.
 #[tactic(auto, unfolding(crate::specs::Parts::least_text))]
 fn push_least(text: &mut Vec<u8>, common: &CommonPattern) -> Result<(), NoMemory>
     ensures { OnOk result (text.new.items ≡ text.old.items ++ least_text common.now) }
@@ -84,7 +84,7 @@ fn push_least(text: &mut Vec<u8>, common: &CommonPattern) -> Result<(), NoMemory
     push_prefix(text, common.least)
 }
 
-/// Adds the line of what two first patterns both contain.
+// Adds the line of what two first patterns both contain.
 #[tactic(auto, unfolding(crate::specs::Parts::common_line))]
 fn push_common(text: &mut Vec<u8>, common: &CommonPattern) -> Result<(), NoMemory>
     ensures { OnOk result (text.new.items ≡ text.old.items ++ common_line common.now) }

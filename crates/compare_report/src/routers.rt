@@ -25,7 +25,7 @@ use outcome_report::push_next;
 use std::alloc::{AllocError, Global};
 use text_parts::push_bytes;
 
-/// Adds the names of routers, each after a space.
+// Adds the names of routers, each after a space.
 fn push_names(text: &mut Vec<u8>, net: &Net, routers: &[Loc]) -> Result<(), NoMemory>
     ensures { OnOk result (text.new.items ≡ text.old.items ++ router_names net.now routers.now) }
 {
@@ -35,7 +35,7 @@ fn push_names(text: &mut Vec<u8>, net: &Net, routers: &[Loc]) -> Result<(), NoMe
     Ok(())
 }
 
-/// Adds the names of all routers but these, where there are some of them.
+// Adds the names of all routers but these, where there are some of them.
 fn push_but(text: &mut Vec<u8>, net: &Net, routers: &[Loc]) -> Result<(), NoMemory>
     ensures { OnOk result (text.new.items ≡ text.old.items ++ but_text (router_names net.now) routers.now) }
 {
@@ -48,14 +48,14 @@ fn push_but(text: &mut Vec<u8>, net: &Net, routers: &[Loc]) -> Result<(), NoMemo
     }
 }
 
-/// Whether the others are fewer than these.
+// Whether the others are fewer than these.
 fn are_fewer(others: usize, these: usize) -> bool
     ensures { result ≡ nat_lt others these }
 {
     others < these
 }
 
-/// Adds all routers but the others.
+// Adds all routers but the others.
 fn push_all_but(text: &mut Vec<u8>, net: &Net, others: &[Loc]) -> Result<(), NoMemory>
     ensures { OnOk result (text.new.items ≡ text.old.items ++ all_routers_but net.now others.now) }
 {
@@ -64,7 +64,7 @@ fn push_all_but(text: &mut Vec<u8>, net: &Net, others: &[Loc]) -> Result<(), NoM
     Ok(())
 }
 
-/// Adds these routers.
+// Adds these routers.
 fn push_these(text: &mut Vec<u8>, net: &Net, these: &[Loc]) -> Result<(), NoMemory>
     ensures { OnOk result (text.new.items ≡ text.old.items ++ these_routers net.now these.now) }
 {
@@ -72,7 +72,7 @@ fn push_these(text: &mut Vec<u8>, net: &Net, these: &[Loc]) -> Result<(), NoMemo
     push_names(text, net, these)
 }
 
-/// Adds a list of routers, or of the others where they are fewer.
+// Adds a list of routers, or of the others where they are fewer.
 fn push_list(text: &mut Vec<u8>, net: &Net, these: &[Loc], others: &[Loc]) -> Result<(), NoMemory>
     ensures { OnOk result (text.new.items ≡ text.old.items ++ router_list net.now these.now others.now) }
 {
@@ -106,7 +106,9 @@ pub fn push_routers(
 /// Routers of which something is so, and the others, in order.
 #[derive(Drop)]
 pub struct RouterParts {
+    /// The routers of which it is so.
     pub these: Vec<Loc>,
+    /// The other routers.
     pub others: Vec<Loc>,
 }
 
@@ -121,7 +123,7 @@ pub fn routers_of(alloc: Global, net: &Net) -> Result<Vec<Loc>, AllocError>
     Ok(routers)
 }
 
-/// Those of some routers that a set holds.
+// Those of some routers that a set holds.
 fn held(alloc: Global, routers: &[Loc], set: &LocSet) -> Result<Vec<Loc>, AllocError>
     ensures { IfOk result (λ list. list.items ≡ filter (holds set.now) routers.now) }
 {
@@ -134,7 +136,7 @@ fn held(alloc: Global, routers: &[Loc], set: &LocSet) -> Result<Vec<Loc>, AllocE
     Ok(list)
 }
 
-/// Those of some routers that a set doesn't hold.
+// Those of some routers that a set doesn't hold.
 fn not_held(alloc: Global, routers: &[Loc], set: &LocSet) -> Result<Vec<Loc>, AllocError>
     ensures { IfOk result (λ list. list.items ≡ filter (λ r. not (holds set.now r)) routers.now) }
 {
@@ -147,7 +149,7 @@ fn not_held(alloc: Global, routers: &[Loc], set: &LocSet) -> Result<Vec<Loc>, Al
     Ok(list)
 }
 
-/// The routers of the network that a set holds, and the others.
+// The routers of the network that a set holds, and the others.
 fn parted_all(alloc: Global, net: &Net, set: &LocSet) -> Result<RouterParts, AllocError>
     ensures these { IfOk result (λ p. p.these.items ≡ filter (holds set.now) (all_routers net.now)) }
     ensures others { IfOk result (λ p. p.others.items ≡ filter (λ r. not (holds set.now r)) (all_routers net.now)) }
@@ -185,7 +187,7 @@ pub fn sessions_of(alloc: Global, net: &Net) -> Result<List<(Loc, Loc)>, AllocEr
     Ok(sessions)
 }
 
-/// Adds the names of a session's router and peer.
+// Adds the names of a session's router and peer.
 fn push_session(text: &mut Vec<u8>, net: &Net, session: (Loc, Loc)) -> Result<(), NoMemory>
     ensures { OnOk result (text.new.items ≡ text.old.items ++ session_name net.now session) }
 {
@@ -193,7 +195,7 @@ fn push_session(text: &mut Vec<u8>, net: &Net, session: (Loc, Loc)) -> Result<()
     push_next(text, net, session.1)
 }
 
-/// Adds the names of further sessions.
+// Adds the names of further sessions.
 fn push_more(text: &mut Vec<u8>, net: &Net, sessions: &[(Loc, Loc)]) -> Result<(), NoMemory>
     ensures { OnOk result (text.new.items ≡ text.old.items ++ flat_map (next_session net.now) sessions.now) }
 {
@@ -204,7 +206,7 @@ fn push_more(text: &mut Vec<u8>, net: &Net, sessions: &[(Loc, Loc)]) -> Result<(
     Ok(())
 }
 
-/// Adds the names of sessions, with commas between them.
+// Adds the names of sessions, with commas between them.
 fn push_all(text: &mut Vec<u8>, net: &Net, sessions: &[(Loc, Loc)]) -> Result<(), NoMemory>
     ensures { OnOk result (text.new.items ≡ text.old.items ++ session_names net.now sessions.now) }
 {
@@ -217,7 +219,7 @@ fn push_all(text: &mut Vec<u8>, net: &Net, sessions: &[(Loc, Loc)]) -> Result<()
     }
 }
 
-/// Adds the names of all sessions but these, where there are some of them.
+// Adds the names of all sessions but these, where there are some of them.
 fn push_but_sessions(text: &mut Vec<u8>, net: &Net, sessions: &[(Loc, Loc)]) -> Result<(), NoMemory>
     ensures { OnOk result (text.new.items ≡ text.old.items ++ but_text (session_names net.now) sessions.now) }
 {
@@ -230,7 +232,7 @@ fn push_but_sessions(text: &mut Vec<u8>, net: &Net, sessions: &[(Loc, Loc)]) -> 
     }
 }
 
-/// Adds all sessions but the others.
+// Adds all sessions but the others.
 fn push_all_sessions_but(
     text: &mut Vec<u8>,
     net: &Net,
@@ -243,7 +245,7 @@ fn push_all_sessions_but(
     Ok(())
 }
 
-/// Adds these sessions.
+// Adds these sessions.
 fn push_these_sessions(text: &mut Vec<u8>, net: &Net, these: &[(Loc, Loc)]) -> Result<(), NoMemory>
     ensures { OnOk result (text.new.items ≡ text.old.items ++ these_sessions net.now these.now) }
 {
@@ -251,7 +253,7 @@ fn push_these_sessions(text: &mut Vec<u8>, net: &Net, these: &[(Loc, Loc)]) -> R
     push_all(text, net, these)
 }
 
-/// Adds a list of sessions, or of the others where they are fewer.
+// Adds a list of sessions, or of the others where they are fewer.
 fn push_session_list(
     text: &mut Vec<u8>,
     net: &Net,

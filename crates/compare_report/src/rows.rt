@@ -21,7 +21,7 @@ pub fn push_number_or_none(text: &mut Vec<u8>, number: Option<u32>) -> Result<()
     }
 }
 
-/// Adds the names of the places of a walk.
+// Adds the names of the places of a walk.
 fn push_places(text: &mut Vec<u8>, net: &Net, walk: &[Loc]) -> Result<(), NoMemory>
     ensures { OnOk result (text.new.items ≡ text.old.items ++ flat_map (next_name net.now) walk.now) }
 {
@@ -31,7 +31,7 @@ fn push_places(text: &mut Vec<u8>, net: &Net, walk: &[Loc]) -> Result<(), NoMemo
     Ok(())
 }
 
-/// Adds the word for a walk, which may be a path.
+// Adds the word for a walk, which may be a path.
 fn push_word(text: &mut Vec<u8>, walk: &[Loc]) -> Result<(), NoMemory>
     ensures { OnOk result (text.new.items ≡ text.old.items ++ walk_word walk.now) }
 {
@@ -42,7 +42,7 @@ fn push_word(text: &mut Vec<u8>, walk: &[Loc]) -> Result<(), NoMemory>
     }
 }
 
-/// Adds a walk, and whether it is a path.
+// Adds a walk, and whether it is a path.
 #[tactic(auto, unfolding(crate::specs::Parts::walk_text))]
 fn push_walk(text: &mut Vec<u8>, net: &Net, walk: &[Loc]) -> Result<(), NoMemory>
     ensures { OnOk result (text.new.items ≡ text.old.items ++ walk_text net.now walk.now) }
@@ -52,7 +52,7 @@ fn push_walk(text: &mut Vec<u8>, net: &Net, walk: &[Loc]) -> Result<(), NoMemory
     push_bytes(text, b"\n")
 }
 
-/// Adds a row of ranks with its walk.
+// Adds a row of ranks with its walk.
 #[tactic(auto, unfolding(crate::specs::Parts::row_line))]
 fn push_row(text: &mut Vec<u8>, net: &Net, row: Row, walk: &[Loc]) -> Result<(), NoMemory>
     ensures { OnOk result (text.new.items ≡ text.old.items ++ row_line net.now row walk.now) }

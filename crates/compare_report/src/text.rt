@@ -40,7 +40,7 @@ use policy_base::Policy;
 use std::alloc::Global;
 use text_parts::{push_bytes, push_number};
 
-/// Whether one of these pairs has changed.
+// Whether one of these pairs has changed.
 #[tactic(auto, using(crate::proofs::Borrowed::seen_next, crate::proofs::Borrowed::seen_push))]
 fn some_changed(net: &Net, group: &[&ComparedPair]) -> bool
     ensures { result ≡ list_any (is_changed net.now) (seen group.now) }
@@ -53,7 +53,7 @@ fn some_changed(net: &Net, group: &[&ComparedPair]) -> bool
     false
 }
 
-/// How many pairs have changed.
+// How many pairs have changed.
 fn changed(net: &Net, pairs: &[ComparedPair]) -> usize
     ensures { result ≡ count_by (is_changed net.now) pairs.now }
 {
@@ -66,7 +66,7 @@ fn changed(net: &Net, pairs: &[ComparedPair]) -> usize
     count
 }
 
-/// Adds the line with the statements of a change.
+// Adds the line with the statements of a change.
 #[tactic(auto, unfolding(crate::specs::Changes::head_line))]
 fn push_head(text: &mut Vec<u8>, cases: &CasePair) -> Result<(), NoMemory>
     ensures { OnOk result (text.new.items ≡ text.old.items ++ head_line cases.now) }
@@ -78,7 +78,7 @@ fn push_head(text: &mut Vec<u8>, cases: &CasePair) -> Result<(), NoMemory>
     push_bytes(text, b"\n")
 }
 
-/// Adds a word, where it holds.
+// Adds a word, where it holds.
 #[tactic(auto, unfolding(crate::specs::Kinds::word_if))]
 fn push_if(text: &mut Vec<u8>, holds: bool, word: &[u8]) -> Result<(), NoMemory>
     ensures { OnOk result (text.new.items ≡ text.old.items ++ word_if holds word.now) }
@@ -90,7 +90,7 @@ fn push_if(text: &mut Vec<u8>, holds: bool, word: &[u8]) -> Result<(), NoMemory>
     }
 }
 
-/// Adds the words in which places differ.
+// Adds the words in which places differ.
 fn push_words(text: &mut Vec<u8>, words: Words) -> Result<(), NoMemory>
     ensures { OnOk result (text.new.items ≡ text.old.items ++ words_text words) }
 {
@@ -110,7 +110,7 @@ fn push_words(text: &mut Vec<u8>, words: Words) -> Result<(), NoMemory>
     }
 }
 
-/// Adds the lines of a kind of difference that these pairs have and the others haven't.
+// Adds the lines of a kind of difference that these pairs have and the others haven't.
 fn push_kind_of(
     alloc: Global,
     text: &mut Vec<u8>,
@@ -130,7 +130,7 @@ fn push_kind_of(
     push_rows(text, net, kind.rows.as_slice(), example(these, kind))
 }
 
-/// Adds the lines of a kind of difference of a group.
+// Adds the lines of a kind of difference of a group.
 fn push_kind(
     alloc: Global,
     text: &mut Vec<u8>,
@@ -145,7 +145,7 @@ fn push_kind(
     push_kind_of(alloc, text, net, order, kind, &split.these, &split.others)
 }
 
-/// Adds the lines of the kinds of a pair that none of the earlier ones has.
+// Adds the lines of the kinds of a pair that none of the earlier ones has.
 fn push_new_kinds(
     alloc: Global,
     text: &mut Vec<u8>,
@@ -165,7 +165,7 @@ fn push_new_kinds(
     Ok(())
 }
 
-/// Adds the lines of all kinds of difference of a group.
+// Adds the lines of all kinds of difference of a group.
 #[tactic(auto, using(crate::proofs::Telling::kinds_next))]
 fn push_kinds(
     alloc: Global,
@@ -183,7 +183,7 @@ fn push_kinds(
     Ok(())
 }
 
-/// Adds the word of those who carry in one policy alone.
+// Adds the word of those who carry in one policy alone.
 fn push_carriers_word(text: &mut Vec<u8>, which: Carrying) -> Result<(), NoMemory>
     ensures { OnOk result (text.new.items ≡ text.old.items ++ carriers_word which) }
 {
@@ -193,7 +193,7 @@ fn push_carriers_word(text: &mut Vec<u8>, which: Carrying) -> Result<(), NoMemor
     }
 }
 
-/// Adds the lines of the routers that carry in one policy alone for these pairs, and not for the others.
+// Adds the lines of the routers that carry in one policy alone for these pairs, and not for the others.
 fn push_carriers_of(
     alloc: Global,
     text: &mut Vec<u8>,
@@ -210,7 +210,7 @@ fn push_carriers_of(
     push_carrier_places(alloc, text, net, these, which)
 }
 
-/// Adds the lines of the routers that carry in one policy alone for a group.
+// Adds the lines of the routers that carry in one policy alone for a group.
 fn push_carriers(
     alloc: Global,
     text: &mut Vec<u8>,
@@ -228,7 +228,7 @@ fn push_carriers(
     push_carriers_of(alloc, text, net, order, which, &split.these, &split.others)
 }
 
-/// Adds the lines of a group, of which this is the first pair.
+// Adds the lines of a group, of which this is the first pair.
 fn push_group(
     alloc: Global,
     text: &mut Vec<u8>,
@@ -247,7 +247,7 @@ fn push_group(
     push_carriers(alloc, text, net, order, group, Carrying::Gained)
 }
 
-/// Adds the lines of a group, of which this is the first pair, where one of its pairs has changed.
+// Adds the lines of a group, of which this is the first pair, where one of its pairs has changed.
 #[tactic(auto, unfolding(crate::specs::Changes::change_lines))]
 fn push_change(
     alloc: Global,
@@ -265,7 +265,7 @@ fn push_change(
     push_group(alloc, text, net, order, group, first)
 }
 
-/// Adds the lines of the group of a pair, unless it is in the group of an earlier one.
+// Adds the lines of the group of a pair, unless it is in the group of an earlier one.
 #[tactic(auto, unfolding(crate::specs::Changes::lines_at))]
 fn push_at(
     alloc: Global,
@@ -285,7 +285,7 @@ fn push_at(
     push_change(alloc, text, net, order, &group, pair)
 }
 
-/// Adds the lines of all groups.
+// Adds the lines of all groups.
 #[tactic(auto, using(crate::proofs::Telling::lines_next))]
 fn push_changes(
     alloc: Global,
@@ -310,7 +310,7 @@ fn push_changes(
     Ok(())
 }
 
-/// Adds the line that counts pairs.
+// Adds the line that counts pairs.
 #[tactic(auto, unfolding(crate::specs::Changes::last_line))]
 fn push_counts(text: &mut Vec<u8>, pairs: usize, changed: usize) -> Result<(), NoMemory>
     ensures { OnOk result (text.new.items ≡ text.old.items ++ last_line pairs changed) }

@@ -17,11 +17,13 @@ use std::alloc::{AllocError, Global};
 /// The graphs of cases that are accepted, and the preference numbers of their nodes.
 #[derive(Drop)]
 pub struct Accepted {
+    /// The graph of each case, in order.
     pub graphs: Vec<Graph>,
+    /// The preference numbers of each case's nodes, in the same order.
     pub prefs: Vec<Prefs>,
 }
 
-/// Puts the graph and the numbers of a case behind the others.
+// Puts the graph and the numbers of a case behind the others.
 fn keep(all: &mut Accepted, graph: Graph, prefs: Prefs) -> Result<(), AllocError>
     ensures graphs { OnOk result (all.new.graphs.items ≡ all.old.graphs.items ++ graph ∷ []) }
     ensures prefs { OnOk result (all.new.prefs.items ≡ all.old.prefs.items ++ prefs ∷ []) }

@@ -85,6 +85,7 @@ pub fn router_block<'a>(
     }
 }
 
+// Whether two names are the same.
 fn is_same(name: Name, other: Name) -> bool
     ensures { result ≡ bytes_eq name other }
 {

@@ -26,7 +26,7 @@ fn import_if(rule: Import, class: u32, tag: Tag) -> Option<Import>
     }
 }
 
-// The import line of a class and a tag, among lines that ascend.
+/// The import line of a class and a tag, among lines that ascend.
 pub(crate) fn import_line(imports: &[Import], class: u32, tag: Tag) -> Option<Import>
     requires { Ascend (map (λ r. tag_key r.class r.tag) imports.now) }
     ensures { result ≡ find (λ r. r.class == class && same_tag r.tag tag) imports.now }
@@ -36,13 +36,14 @@ pub(crate) fn import_line(imports: &[Import], class: u32, tag: Tag) -> Option<Im
     import_if(rule, class, tag)
 }
 
+// Whether the line sends routes of the class with the tag.
 fn is_export(line: &Export, class: u32, tag: Tag) -> bool
     ensures { result ≡ (line.now.class == class && same_tag line.now.tag tag) }
 {
     line.class == class && line.tag == tag
 }
 
-// Whether there is an export line of a class and a tag, among lines that ascend.
+/// Whether there is an export line of a class and a tag, among lines that ascend.
 pub(crate) fn has_export(exports: &[Export], class: u32, tag: Tag) -> bool
     requires { Ascend (map (λ e. tag_key e.class e.tag) exports.now) }
     ensures { result ≡ list_any (λ e. e.class == class && same_tag e.tag tag) exports.now }

@@ -25,16 +25,20 @@ pub enum Figure {
 /// The numbers of a tag as they stand in a line.
 #[derive(Clone, Copy, Debug, PartialEq, Eq)]
 pub struct RawTag {
+    /// The AS number of the tag's router.
     pub asn: Figure,
     /// What stands between the others: 0 in the first edition, where nothing does.
     pub middle: Figure,
+    /// The number of the tag among those of its router.
     pub value: Figure,
 }
 
 /// The tag and the preference that an import gives, with their numbers as they stand.
 #[derive(Clone, Copy, Debug, PartialEq, Eq)]
 pub struct Setting {
+    /// The tag that routes get.
     pub set: RawTag,
+    /// The local preference that they get (RFC 4271, 5.1.5).
     pub pref: Figure,
 }
 

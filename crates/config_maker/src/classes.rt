@@ -9,6 +9,7 @@ use net_base::{List, Pattern, Prefix};
 use policy_base::{Case, Policy, statement_at};
 use std::alloc::{AllocError, Global};
 
+// For each of some prefixes the pattern that contains it alone.
 fn only_each(alloc: Global, prefixes: &[Prefix]) -> Result<List<Pattern>, AllocError>
     ensures { IfOk result (λ patterns. patterns ≡ map only prefixes.now) }
 {

@@ -27,6 +27,7 @@ pub struct OpenRouter {
 /// What was read so far.
 #[derive(Drop)]
 pub struct Reading {
+    /// The patterns of each class.
     pub classes: List<List<Pattern>>,
     /// The routers whose blocks are read.
     pub routers: Routers,

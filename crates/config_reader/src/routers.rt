@@ -13,7 +13,7 @@ use net_base::{List, Name};
 use std::alloc::Global;
 use std::marker::Model;
 
-/// What differs from router to router, so that what stood before is found without a look at each of them.
+// What differs from router to router, so that what stood before is found without a look at each of them.
 #[derive(Drop)]
 struct Known {
     names: Names,

@@ -1,4 +1,22 @@
-//! The texts of configurations: which one spells which configuration, and how they are written.
+//! The text of a configuration in either edition, and the law that no text is that of two configurations; it writes the
+//! second edition alone.
+//!
+//! A configuration's text is its lines, one after another: the first line of its edition, the classes, and then the blocks
+//! of the routers. `specs/ConfigText` says these lines, `specs/Spelled` which configuration a text spells in an edition.
+//! `texts_spell_one_configuration` says that a text says all that there is to say of its configuration. A configuration has
+//! one text in an edition, and a text one configuration, since the first line differs. `print_config` writes the second
+//! edition. Every lawful configuration has such a text, also one that was written in the first
+//! (`configurations_have_texts`).
+//!
+//! A large text is nearly all import and export lines, and each piece that is added to a text asks for room and is copied.
+//! So a line is written from its end: its pieces are put one in front of another in an array of 96 bytes (`Tail`), and the
+//! line is added to the text once. The digits of a number come in that order by themselves, the last one first. An import
+//! line has at most 90 bytes.
+//!
+//! How the tags of a block begin, an AS number and `:0:` (RFC 8092), is written once for each of its two numbers (`Front`).
+//! A tag with another number is written whole, so no contract asks which number a tag has.
+//!
+//! It knows nothing of policies and evidence.
 #![tactic(auto)]
 
 ghost use Rattle.std.specs.Prelude.{◌≡◌, ◌++◌, ◌+◌, ◌≤◌, codes, length, if◌then◌else◌, OnOk, IfOk};
@@ -23,7 +41,7 @@ mod tail;
 
 pub use law::{configurations_have_texts, texts_are_lines, texts_spell_one_configuration};
 
-/// As many bytes as most lines have.
+// As many bytes as most lines have.
 const LINE_BYTES: usize = 48;
 
 // Adds patterns, each after a comma and a space.

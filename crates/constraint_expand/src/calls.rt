@@ -11,28 +11,28 @@ use path_exprs::Expr;
 use policy_base::{Call, SetCall};
 use std::alloc::{AllocError, Global};
 
-/// The expression that holds every list.
+// The expression that holds every list.
 fn everything(alloc: Global) -> Result<Expr, AllocError>
     ensures { IfOk result (λ r. view r ≡ all) }
 {
     Ok(Expr::Not(Box::new(alloc, Expr::Never)?))
 }
 
-/// One after the other.
+// One after the other.
 fn seq(alloc: Global, a: Expr, b: Expr) -> Result<Expr, AllocError>
     ensures { IfOk result (λ r. view r ≡ Expression.seq (view a) (view b)) }
 {
     Ok(Expr::Seq(Box::new(alloc, a)?, Box::new(alloc, b)?))
 }
 
-/// One of two.
+// One of two.
 fn either(alloc: Global, a: Expr, b: Expr) -> Result<Expr, AllocError>
     ensures { IfOk result (λ r. view r ≡ either_of (view a) (view b)) }
 {
     Ok(Expr::Either(vec![in alloc; a, b]?))
 }
 
-/// Any list, and then one of the expression.
+// Any list, and then one of the expression.
 fn behind_any(alloc: Global, back: Expr) -> Result<Expr, AllocError>
     ensures { IfOk result (λ r. view r ≡ Expression.seq all (view back)) }
 {
@@ -40,7 +40,7 @@ fn behind_any(alloc: Global, back: Expr) -> Result<Expr, AllocError>
     seq(alloc, any, back)
 }
 
-/// A location of the set, and then any list.
+// A location of the set, and then any list.
 fn begun_in(alloc: Global, set: LocSet) -> Result<Expr, AllocError>
     ensures { IfOk result (λ r. view r ≡ Expression.seq (Expression.set set) all) }
 {
@@ -48,7 +48,7 @@ fn begun_in(alloc: Global, set: LocSet) -> Result<Expr, AllocError>
     seq(alloc, Expr::Set(set), any)
 }
 
-/// Any number of locations of the net outside the set.
+// Any number of locations of the net outside the set.
 fn outside_only(alloc: Global, net: &Net, set: &LocSet) -> Result<Expr, AllocError>
     ensures { IfOk result (λ r. view r ≡ forward_set_of net.now Avoid set.now) }
 {
@@ -56,7 +56,7 @@ fn outside_only(alloc: Global, net: &Net, set: &LocSet) -> Result<Expr, AllocErr
     Ok(Expr::Star(Box::new(alloc, Expr::Set(others))?))
 }
 
-/// No location but the first and the last is in the set.
+// No location but the first and the last is in the set.
 fn no_transit(alloc: Global, net: &Net, set: &LocSet) -> Result<Expr, AllocError>
     ensures { IfOk result (λ r. view r ≡ forward_set_of net.now NoTransit set.now) }
 {
@@ -65,7 +65,7 @@ fn no_transit(alloc: Global, net: &Net, set: &LocSet) -> Result<Expr, AllocError
     seq(alloc, Expr::Set(net.locations()), back)
 }
 
-/// The last location is a peer, and it or the one before it is in the set.
+// The last location is a peer, and it or the one before it is in the set.
 fn exit(alloc: Global, net: &Net, set: &LocSet) -> Result<Expr, AllocError>
     ensures { IfOk result (λ r. view r ≡ forward_set_of net.now Exit set.now) }
 {
@@ -76,7 +76,7 @@ fn exit(alloc: Global, net: &Net, set: &LocSet) -> Result<Expr, AllocError>
     either(alloc, first, second)
 }
 
-/// The first location is a peer, and it or the one after it is in the set.
+// The first location is a peer, and it or the one after it is in the set.
 fn enter(alloc: Global, net: &Net, set: &LocSet) -> Result<Expr, AllocError>
     ensures { IfOk result (λ r. view r ≡ forward_set_of net.now Enter set.now) }
 {
@@ -87,7 +87,7 @@ fn enter(alloc: Global, net: &Net, set: &LocSet) -> Result<Expr, AllocError>
     either(alloc, first, second)
 }
 
-/// Some location is in the set.
+// Some location is in the set.
 fn through(alloc: Global, set: LocSet) -> Result<Expr, AllocError>
     ensures { IfOk result (λ r. view r ≡ Expression.seq all (Expression.seq (Expression.set set) all)) }
 {
@@ -95,7 +95,7 @@ fn through(alloc: Global, set: LocSet) -> Result<Expr, AllocError>
     behind_any(alloc, back)
 }
 
-/// Some location is in the first set and the next one in the second.
+// Some location is in the first set and the next one in the second.
 fn link(alloc: Global, first: LocSet, second: LocSet) -> Result<Expr, AllocError>
     ensures { IfOk result (λ r. view r ≡ Expression.seq all (Expression.seq (Expression.set first) (Expression.seq (Expression.set second) all))) }
 {
@@ -138,7 +138,7 @@ pub fn forward(alloc: Global, net: &Net, call: &Call) -> Result<Expr, AllocError
     }
 }
 
-/// One location of each set in turn.
+// One location of each set in turn.
 fn in_turn(alloc: Global, sets: &[LocSet]) -> Result<Expr, AllocError>
     ensures { IfOk result (λ r. view r ≡ in_turn_of sets.now) }
 {

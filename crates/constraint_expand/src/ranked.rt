@@ -17,7 +17,7 @@ use policy_base::limits::ALTERNATIVES;
 use policy_base::{Ranked, SetCall, alternatives};
 use std::alloc::{AllocError, Global};
 
-/// The number of a part that is put behind the others, alone.
+// The number of a part that is put behind the others, alone.
 fn alone(alloc: Global, parts: &mut Parts, part: Part) -> Result<Vec<usize>, AllocError>
     requires earlier { is_earlier (length (values parts.old)) part ≡ true }
     ensures { IfOk result (λ r. Puts (values parts.old) (values parts.new) r.items (expression_of (values parts.old) part ∷ [])) }
@@ -26,7 +26,7 @@ fn alone(alloc: Global, parts: &mut Parts, part: Part) -> Result<Vec<usize>, All
     Ok(vec![in alloc; number]?)
 }
 
-/// The expressions of the call of each set.
+// The expressions of the call of each set.
 fn forward_each(
     alloc: Global,
     parts: &mut Parts,
@@ -44,7 +44,7 @@ fn forward_each(
     Ok(all)
 }
 
-/// The first with each of the second.
+// The first with each of the second.
 fn row_of(
     alloc: Global,
     parts: &mut Parts,
@@ -62,7 +62,7 @@ fn row_of(
     Ok(all)
 }
 
-/// Each of the first with each of the second.
+// Each of the first with each of the second.
 fn pairs_of(
     alloc: Global,
     parts: &mut Parts,
@@ -82,7 +82,7 @@ fn pairs_of(
     Ok(all)
 }
 
-/// The expressions of the alternatives, by their numbers among the parts.
+// The expressions of the alternatives, by their numbers among the parts.
 fn expressions_in_order(
     alloc: Global,
     parts: &mut Parts,

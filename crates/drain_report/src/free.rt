@@ -12,7 +12,7 @@ use net_base::{List, Loc, LocSet, Net, Prefix};
 use scenarios::{Scenario, Survivors};
 use std::alloc::{AllocError, Global};
 
-/// Whether a location is a router.
+// Whether a location is a router.
 fn is_router(net: &Net, at: Loc) -> bool
     ensures exact { result ≡ router_at net.now at }
     ensures within { IsTrue result → at < LOCATIONS }
@@ -20,7 +20,7 @@ fn is_router(net: &Net, at: Loc) -> bool
     (at.number() as usize) < net.routers().len()
 }
 
-/// The routers to which a step leads.
+// The routers to which a step leads.
 fn ends(net: &Net, steps: &[(Loc, Loc)]) -> LocSet
     ensures { (l : ℕ) → holds result l ≡ (router_at net.now l && list_any (leads_to l) steps.now) }
 {
@@ -33,7 +33,7 @@ fn ends(net: &Net, steps: &[(Loc, Loc)]) -> LocSet
     set
 }
 
-/// What is left of a network where the links of some steps are dead.
+// What is left of a network where the links of some steps are dead.
 fn left_by(net: &Net, alloc: Global, prefix: Prefix, steps: List<(Loc, Loc)>) -> Survivors
     ensures { (a b : ℕ) → IsTrue (linked net.now a b) → live_by net.now result a b ≡ not (list_any (joins a b) steps) }
 {
@@ -64,7 +64,7 @@ impl Spared {
         Spared { left, ends }
     }
 
-    /// Whether no step is over a link, or leads to a router.
+    // Whether no step is over a link, or leads to a router.
     fn has(&self, net: &Net, cut: Cut) -> bool
         ensures { result ≡ spared_by net.now self.now.left self.now.ends cut }
     {

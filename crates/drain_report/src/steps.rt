@@ -8,7 +8,7 @@ use outcome_report::ReportedOutcome;
 use scenarios::Outcome;
 use std::alloc::{AllocError, Global};
 
-/// Adds the steps of a path.
+// Adds the steps of a path.
 fn push_steps(steps: &mut List<(Loc, Loc)>, path: &[Loc]) -> Result<(), AllocError>
     ensures { OnOk result (steps.new ≡ steps.old ++ steps_of path.now) }
 {
@@ -18,7 +18,7 @@ fn push_steps(steps: &mut List<(Loc, Loc)>, path: &[Loc]) -> Result<(), AllocErr
     Ok(())
 }
 
-/// The steps of the paths of routes.
+// The steps of the paths of routes.
 fn route_steps(alloc: Global, outcome: &Outcome) -> Result<List<(Loc, Loc)>, AllocError>
     ensures { IfOk result (λ steps. steps ≡ flat_map held_steps outcome.now.routes) }
 {
@@ -31,14 +31,14 @@ fn route_steps(alloc: Global, outcome: &Outcome) -> Result<List<(Loc, Loc)>, All
     Ok(steps)
 }
 
-/// Whether the first end of a link, a router, offers the second, a peer, something.
+// Whether the first end of a link, a router, offers the second, a peer, something.
 fn offers(situation: &ReportedOutcome<'_>, link: (Loc, Loc)) -> bool
     ensures { result ≡ is_offer situation.now link }
 {
     situation.offered(link.0, link.1).is_some()
 }
 
-/// Adds the first step of what each peer is offered, from the peer to the router.
+// Adds the first step of what each peer is offered, from the peer to the router.
 fn push_offers(
     steps: &mut List<(Loc, Loc)>,
     situation: &ReportedOutcome<'_>,

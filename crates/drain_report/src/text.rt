@@ -13,7 +13,7 @@ use outcome_report::{push_head, push_next};
 use std::alloc::Global;
 use text_parts::{push_bytes, push_number};
 
-/// Adds what is free.
+// Adds what is free.
 fn push_free(text: &mut Vec<u8>, net: &Net, cut: Cut) -> Result<(), NoMemory>
     ensures { OnOk result (text.new.items ≡ text.old.items ++ free_text net.now cut) }
 {
@@ -30,7 +30,7 @@ fn push_free(text: &mut Vec<u8>, net: &Net, cut: Cut) -> Result<(), NoMemory>
     }
 }
 
-/// Adds the line of a link or router that is free.
+// Adds the line of a link or router that is free.
 fn push_line(text: &mut Vec<u8>, net: &Net, cut: Cut) -> Result<(), NoMemory>
     ensures { OnOk result (text.new.items ≡ text.old.items ++ free_line net.now cut) }
 {
@@ -38,7 +38,7 @@ fn push_line(text: &mut Vec<u8>, net: &Net, cut: Cut) -> Result<(), NoMemory>
     push_bytes(text, b"\n")
 }
 
-/// Adds the lines of the links and routers that are free.
+// Adds the lines of the links and routers that are free.
 fn push_lines(text: &mut Vec<u8>, net: &Net, free: &[Cut]) -> Result<(), NoMemory>
     ensures { OnOk result (text.new.items ≡ text.old.items ++ flat_map (free_line net.now) free.now) }
 {
@@ -48,7 +48,7 @@ fn push_lines(text: &mut Vec<u8>, net: &Net, free: &[Cut]) -> Result<(), NoMemor
     Ok(())
 }
 
-/// Adds the line that counts them, and those that live.
+// Adds the line that counts them, and those that live.
 #[tactic(auto, unfolding(crate::specs::Texts::count_line))]
 fn push_count(text: &mut Vec<u8>, free: usize, live: usize) -> Result<(), NoMemory>
     ensures { OnOk result (text.new.items ≡ text.old.items ++ count_line free live) }

@@ -12,9 +12,13 @@ use thiserror::Error;
 pub enum Event {
     /// The first message from one end of a session to the other is delivered.
     Deliver(Loc, Loc),
+    /// The link of two locations goes down, either end first.
     LinkDown(Loc, Loc),
+    /// The link of two locations comes up, either end first.
     LinkUp(Loc, Loc),
+    /// A router goes down.
     RouterDown(Loc),
+    /// A router comes up.
     RouterUp(Loc),
     /// A peer announces again to a router, which stands first.
     PeerSpeak(Loc, Loc),

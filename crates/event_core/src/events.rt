@@ -44,6 +44,7 @@ fn fell(world: &mut World<'_>, log: &mut Vec<Change>, at: Loc, down: bool) -> Re
     make(world, log, Change::Holds(at, None))
 }
 
+// A link goes down: what was on it is forgotten, and its ends choose again.
 fn link_down(
     alloc: Global,
     world: &mut World<'_>,
@@ -61,6 +62,7 @@ fn link_down(
     choose_again(alloc, world, log, b)
 }
 
+// A link comes up: each end queues what is new for the other.
 fn link_up(
     alloc: Global,
     world: &mut World<'_>,
@@ -76,6 +78,7 @@ fn link_up(
     tell_both(alloc, world, log, a, b)
 }
 
+// A router goes down: what was on its links is forgotten, and its neighbours choose again.
 fn router_down(
     alloc: Global,
     world: &mut World<'_>,
@@ -91,6 +94,7 @@ fn router_down(
     choose_around(alloc, world, log, at)
 }
 
+// A router comes up: it chooses, and all its links are told what is new.
 fn router_up(
     alloc: Global,
     world: &mut World<'_>,

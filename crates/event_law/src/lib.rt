@@ -1,10 +1,19 @@
-//! What events keep: laws without code, first of any speakers of BGP, then of a configured network.
+//! What every event keeps, on any network of speakers of BGP and then on a configured one; no code.
 //!
-//! Of any speakers: where no message waits the world is stable; on sessions that are dead before and after an event nothing happens; routers
-//! that choose again in one event may do so in any order (`specs/{Kept,Dead,Together}`). Of a configured network whose evidence passes: each
-//! route that is held, and each message on its way, has a run in the graph of its prefix's case (`specs/Waiting`), so that at every moment
-//! what is held and heard is allowed (`specs/Moments`), and where no message waits the routes are settled for what is down
-//! (`specs/Scenarios`). The compiler and texts are unknown here.
+//! Of any speakers (`specs/{Kept,Dead,Together}`): what was last queued is what the sender gives, a route is the router's choice over what
+//! it heard, and where no message waits the world is stable (`events_keep`). On sessions that are dead before and after an event nothing
+//! happens (`dead_sessions_stay`). Routers that choose again in one event may do so in any order (`choices_have_no_order`).
+//!
+//! Of a configured network whose evidence passes: each route that is held, and each message on its way, has a run in the graph of its
+//! prefix's case (`specs/Waiting`, `held_and_waiting_routes_run`). So at every moment what is held and heard is allowed
+//! (`every_moment_is_right`), and where no message waits the routes are settled for what is down (`quiet_worlds_are_settled`).
+//!
+//! The first half names no configuration, so that it can be used where configurations change, too. The second needs graphs, since what is
+//! on its way may be out of date: that it runs in the graph is kept by each hearing and each sending, where being the best route isn't.
+//!
+//! Compiling doesn't need it.
+//!
+//! It knows nothing of the compiler and texts.
 #![tactic(auto)]
 
 mod worlds;

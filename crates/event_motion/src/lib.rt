@@ -1,4 +1,5 @@
-//! The machine of events is a special case of the one in motion: a law without code.
+//! The machine of events as a special case of the one in motion: which moves an event is, and that the worlds are the same
+//! after them. There is no code.
 //!
 //! `event_base` has routers that choose and send at once with each message, ends of a session that notice at once that it's gone, ties that
 //! go to the lowest identifier, and peers that say the path of themselves. `motion_law` has none of these premises. `specs/Playing` says
@@ -9,6 +10,10 @@
 //! - `proofs/Sends`: sending over some directions, one after another, is telling them all at once.
 //! - `proofs/Picks`: a router chooses the same in both. `proofs/Again`: so it does where several choose and send.
 //! - `proofs/Steps`: event by event. `proofs/Played`: all of them.
+//!
+//! Compiling doesn't need it.
+//!
+//! It knows nothing of the compiler, graphs or evidence.
 #![tactic(auto)]
 
 ghost use Rattle.event_motion.specs.Playing.{EventsAreMoves};

@@ -18,7 +18,7 @@ use location_names::LocationNames;
 use net_base::{List, Loc, Net, Prefix, read_prefix};
 use std::alloc::Global;
 
-/// There are not more events than a list may have.
+// There are not more events than a list may have.
 fn are_few(events: &[RawEvent<'_>]) -> Result<(), EventsFault>
     ensures { GivesUnless EventsFault.NoMemory (λ u. u) result (unless (EventsFault.TooMany (length events.now)) (nat_le (length events.now) LIMIT)) }
 {
@@ -30,7 +30,7 @@ fn are_few(events: &[RawEvent<'_>]) -> Result<(), EventsFault>
     }
 }
 
-/// The location of a name in the event at a place.
+// The location of a name in the event at a place.
 #[tactic(auto, unfolding(crate::specs::Rules::located))]
 fn locate(names: &LocationNames<'_>, place: u64, name: &str) -> Result<Loc, EventsFault>
     ensures { GivesUnless EventsFault.NoMemory (λ l. l) result (located names.now place name.now) }
@@ -41,7 +41,7 @@ fn locate(names: &LocationNames<'_>, place: u64, name: &str) -> Result<Loc, Even
     }
 }
 
-/// The event at a place.
+// The event at a place.
 #[tactic(auto, unfolding(crate::specs::Rules::placed))]
 fn event(names: &LocationNames<'_>, place: u64, raw: &RawEvent<'_>) -> Result<Event, EventsFault>
     ensures { GivesUnless EventsFault.NoMemory (λ e. e) result (placed names.now place (raw_event raw.now)) }
@@ -59,7 +59,7 @@ fn event(names: &LocationNames<'_>, place: u64, raw: &RawEvent<'_>) -> Result<Ev
     }
 }
 
-/// The events, their names those of locations.
+// The events, their names those of locations.
 fn events(
     alloc: Global,
     names: &LocationNames<'_>,
@@ -75,7 +75,7 @@ fn events(
     Ok(all)
 }
 
-/// The events, their names those of locations of a network.
+// The events, their names those of locations of a network.
 fn placed_events(alloc: Global, net: &Net, raw: &[RawEvent<'_>]) -> Result<Vec<Event>, EventsFault>
     ensures { GivesUnless EventsFault.NoMemory (λ v. v.items) result (each_from (placed (names_of net.now)) 1 (map raw_event raw.now)) }
 {
@@ -83,7 +83,7 @@ fn placed_events(alloc: Global, net: &Net, raw: &[RawEvent<'_>]) -> Result<Vec<E
     events(alloc, &names, raw)
 }
 
-/// The prefix of a text.
+// The prefix of a text.
 fn prefix_of(text: &str) -> Result<Prefix, EventsFault>
     ensures { GivesUnless EventsFault.NoMemory (λ p. p) result (or_fault EventsFault.BadPrefix (result_ok (prefix_spelled text.now))) }
 {

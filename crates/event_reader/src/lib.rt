@@ -1,4 +1,17 @@
-//! Event texts: the prefix and the events that a JSON text spells.
+//! Reads events, a JSON text: the prefix and the events for a network, or the first rule that the text breaks, with its
+//! number, word and values.
+//!
+//! `read_events` reads the JSON value, its shape and then rule after rule in the order of their numbers. There are at most
+//! 65,536 events (`EVENTS`), counted before any name is looked up. `specs/Spelled` says what a text spells, and the laws in
+//! `laws` say of each fault when it comes.
+//!
+//! A text says what is asked to happen, not what can. Names must be those of locations. Whether two are linked, or one is a
+//! router, is a fault of the event and not of the text: a command names such an event and passes it over. So a list of
+//! events can be cut or put into another order, and is still a list of events.
+//!
+//! `trace`, `settle` and `waiting` alone need it.
+//!
+//! It knows nothing of policies and configurations.
 #![tactic(auto)]
 
 ghost use Rattle.serde_json.specs.View.{view};
@@ -23,7 +36,7 @@ use serde_json::Value;
 use std::alloc::Global;
 pub use words::{LinkWord, RouterWord};
 
-/// The JSON value that the bytes spell.
+// The JSON value that the bytes spell.
 fn value_of(alloc: Global, bytes: &[u8]) -> Result<Value, EventsFault>
     ensures { GivesUnless EventsFault.NoMemory view result (or_fault EventsFault.NotJson (json_of bytes.now)) }
 {

@@ -24,11 +24,13 @@ pub enum RawEvent<'a> {
 /// What an event text says, before its names are looked up.
 #[derive(Drop)]
 pub struct RawEvents<'a> {
+    /// What stands under `prefix`.
     pub prefix: &'a str,
+    /// The events, in order of the text.
     pub events: Vec<RawEvent<'a>>,
 }
 
-/// The text at a place of an array, from 0.
+// The text at a place of an array, from 0.
 #[tactic(auto, unfolding(crate::specs::Shape::text_in))]
 fn text_at<'a>(place: u64, parts: &'a [Value], index: usize) -> Result<&'a str, EventsFault>
     ensures { GivesUnless EventsFault.NoMemory (λ s. s.now) result (text_in place (map view parts.now) index) }
@@ -42,7 +44,7 @@ fn text_at<'a>(place: u64, parts: &'a [Value], index: usize) -> Result<&'a str, 
     }
 }
 
-/// The event between two locations that the parts of an array say.
+// The event between two locations that the parts of an array say.
 #[tactic(auto, unfolding(crate::specs::Shape::between_two))]
 fn link_event(place: u64, parts: &[Value]) -> Result<RawEvent<'_>, EventsFault>
     ensures { GivesUnless EventsFault.NoMemory raw_event result (between_two place (map view parts.now)) }
@@ -56,7 +58,7 @@ fn link_event(place: u64, parts: &[Value]) -> Result<RawEvent<'_>, EventsFault>
     Ok(RawEvent::Link(word, first, second))
 }
 
-/// The event to a router that the parts of an array say.
+// The event to a router that the parts of an array say.
 #[tactic(auto, unfolding(crate::specs::Shape::of_router))]
 fn router_event(place: u64, parts: &[Value]) -> Result<RawEvent<'_>, EventsFault>
     ensures { GivesUnless EventsFault.NoMemory raw_event result (of_router place (map view parts.now)) }
@@ -69,7 +71,7 @@ fn router_event(place: u64, parts: &[Value]) -> Result<RawEvent<'_>, EventsFault
     Ok(RawEvent::Router(word, router))
 }
 
-/// The event at a place, from 1.
+// The event at a place, from 1.
 #[tactic(auto, unfolding(crate::specs::Shape::event_of))]
 fn event(place: u64, value: &Value) -> Result<RawEvent<'_>, EventsFault>
     ensures { GivesUnless EventsFault.NoMemory raw_event result (event_of place (view value.now)) }
@@ -86,7 +88,7 @@ fn event(place: u64, value: &Value) -> Result<RawEvent<'_>, EventsFault>
     }
 }
 
-/// The events of an array.
+// The events of an array.
 fn events(alloc: Global, values: &[Value]) -> Result<Vec<RawEvent<'_>>, EventsFault>
     ensures { GivesUnless EventsFault.NoMemory (λ v. map raw_event v.items) result (each_from event_of 1 (map view values.now)) }
 {

@@ -15,7 +15,9 @@ use std::alloc::Global;
 /// How a network came to rest: in so many rounds, by so many deliveries.
 #[derive(Clone, Copy, Debug, PartialEq, Eq)]
 pub struct Rest {
+    /// How many rounds were played: the least number after which no message waits, below 2^32.
     pub rounds: u64,
+    /// How many messages were delivered in these rounds.
     pub deliveries: u128,
 }
 

@@ -29,14 +29,14 @@ pub(crate) fn way(net: &Net, from: Loc, to: Loc) -> usize
     direction(net, from, to).unwrap()
 }
 
-// The mark at a place, which isn't set past the end.
+/// The mark at a place, which isn't set past the end.
 pub(crate) fn mark(marks: &[bool], place: usize) -> bool
     ensures { result ≡ slice_index_or marks.now place false }
 {
     place < marks.len() && marks[place]
 }
 
-// The route at a place, if there is one.
+/// The route at a place, if there is one.
 pub(crate) fn route<'r>(routes: &'r [Option<Route>], place: usize) -> Option<&'r Route>
     ensures { option_map (λ h. h.now) result ≡ slice_index_or routes.now place None }
 {
@@ -47,7 +47,7 @@ pub(crate) fn route<'r>(routes: &'r [Option<Route>], place: usize) -> Option<&'r
     }
 }
 
-// The mark of a direction, which isn't set where there is no link.
+/// The mark of a direction, which isn't set where there is no link.
 pub(crate) fn mark_at(net: &Net, marks: &[bool], from: Loc, to: Loc) -> bool
     ensures { result ≡ at_direction net.now marks.now false from to }
 {
@@ -57,7 +57,7 @@ pub(crate) fn mark_at(net: &Net, marks: &[bool], from: Loc, to: Loc) -> bool
     }
 }
 
-// The route of a direction, if there is one.
+/// The route of a direction, if there is one.
 pub(crate) fn route_at<'r>(
     net: &Net,
     routes: &'r [Option<Route>],

@@ -40,7 +40,7 @@ fn queues(alloc: Global, count: usize) -> Result<Vec<Queue>, AllocError>
     Ok(all)
 }
 
-/// What is up and what is silent, by location and by direction.
+// What is up and what is silent, by location and by direction.
 #[derive(Drop)]
 struct AllMarks {
     down: Vec<bool>,
@@ -61,7 +61,7 @@ fn no_marks(alloc: Global, locations: usize, directions: usize) -> Result<AllMar
     })
 }
 
-/// What has passed over sessions, by direction: what was heard and queued last, and what waits.
+// What has passed over sessions, by direction: what was heard and queued last, and what waits.
 #[derive(Drop)]
 struct Passed {
     heard: Vec<Option<Route>>,

@@ -20,7 +20,7 @@ fn neighbours(alloc: Global, net: &Net, at: Loc) -> Result<List<Loc>, AllocError
     Ok(found)
 }
 
-// The neighbours of each location, in order.
+/// The neighbours of each location, in order.
 pub(crate) fn all_neighbours(alloc: Global, net: &Net) -> Result<Vec<List<Loc>>, AllocError>
     ensures { IfOk result (λ all. all.items ≡ map (neighbours_in net.now) (in_order net.now)) }
 {

@@ -12,14 +12,14 @@ use crate::evidence::{CaseEvidence, Evidence};
 use net_base::{Pattern, Prefix};
 use policy_base::{Case, Policy, statement_at};
 
-/// Whether one of some patterns contains a prefix.
+// Whether one of some patterns contains a prefix.
 fn is_matched(patterns: &[Pattern], prefix: Prefix) -> bool
     ensures { result ≡ list_any (λ pattern. contains pattern prefix) patterns.now }
 {
     patterns.iter().any(|pattern| pattern.contains(prefix))
 }
 
-/// Whether a prefix is one of some.
+// Whether a prefix is one of some.
 fn is_named(prefixes: &[Prefix], prefix: Prefix) -> bool
     ensures { result ≡ list_any (λ named. contains (only named) prefix) prefixes.now }
 {
@@ -28,7 +28,7 @@ fn is_named(prefixes: &[Prefix], prefix: Prefix) -> bool
         .any(|named| Pattern::only(*named).contains(prefix))
 }
 
-/// Whether a prefix belongs to a case: whether the case names it or, where the case is external, a pattern of its statement contains it.
+// Whether a prefix belongs to a case: whether the case names it or, where the case is external, a pattern of its statement contains it.
 fn is_of_case(policy: &Policy, case: &Case, prefix: Prefix) -> bool
     ensures { result ≡ list_any (λ pattern. contains pattern prefix) (patterns_of (policy_of policy.now) case.now) }
 {

@@ -86,7 +86,7 @@ impl CaseEvidence {
         self.tags.as_slice()
     }
 
-    /// A copy of the case's evidence.
+    // A copy of the case's evidence.
     fn copy(&self, alloc: Global) -> Result<CaseEvidence, AllocError>
         ensures { IfOk result (λ copy. copy ≡ self.now) }
     {
@@ -104,6 +104,7 @@ impl CaseEvidence {
 /// The evidence for a configuration: that of each case, in the order of the cases.
 #[derive(Drop)]
 pub struct Evidence {
+    /// The evidence of each case. That of class k stands at place k - 1.
     pub cases: List<CaseEvidence>,
 }
 

@@ -28,13 +28,16 @@ use walk_check::{WalkClasses, mixed_fault, walks};
 /// A rule that fails in a case, with the first nodes at which it does. A node that the rule doesn't speak of is 0.
 #[derive(Clone, Copy, Debug, PartialEq, Eq)]
 pub struct Fault {
+    /// The rule that fails.
     pub rule: CheckRule,
+    /// The node at which it fails, from 0, or the first of a pair.
     pub first: u32,
+    /// The second node of the pair, from 0; 0 where the rule speaks of one node or none.
     pub second: u32,
 }
 
 impl Fault {
-    /// The rule fails at a node.
+    // The rule fails at a node.
     fn at_node(rule: CheckRule, node: u32) -> Fault
         ensures { result ≡ record { rule = rule; first = node; second = 0 } }
     {
@@ -45,7 +48,7 @@ impl Fault {
         }
     }
 
-    /// The rule fails at a pair of nodes.
+    // The rule fails at a pair of nodes.
     fn at_pair(rule: CheckRule, pair: (u32, u32)) -> Fault
         ensures { result ≡ record { rule = rule; first = pair.0; second = pair.1 } }
     {
@@ -57,7 +60,7 @@ impl Fault {
     }
 }
 
-/// The routers at which a node of a case has a rank.
+// The routers at which a node of a case has a rank.
 fn ranked_in(net: &Net, case: &CaseEvidence) -> LocSet
     ensures { (l : ℕ) → IsTrue (holds result l) ↔ IsRankedRouter net.now case.now.graph l }
 {
@@ -65,7 +68,7 @@ fn ranked_in(net: &Net, case: &CaseEvidence) -> LocSet
 }
 
 // The four rules of numbers are asked for alike; each names its own rule, and hands on what that rule speaks of.
-/// The first pair of nodes that breaks the rule on ranks, at these routers.
+// The first pair of nodes that breaks the rule on ranks, at these routers.
 fn first_by_rank(
     alloc: Global,
     net: &Net,
@@ -77,7 +80,7 @@ fn first_by_rank(
     rank_fault(alloc, net, case.graph(), case.prefs(), claimed)
 }
 
-/// The first pair of nodes that breaks the rule on steps.
+// The first pair of nodes that breaks the rule on steps.
 fn first_by_step(
     alloc: Global,
     net: &Net,
@@ -88,7 +91,7 @@ fn first_by_step(
     step_fault(alloc, net, case.graph(), case.prefs())
 }
 
-/// The first pair of nodes that breaks the rule on loops.
+// The first pair of nodes that breaks the rule on loops.
 fn first_by_loop(
     alloc: Global,
     net: &Net,
@@ -101,7 +104,7 @@ fn first_by_loop(
     loop_fault(alloc, net, case.graph(), case.prefs())
 }
 
-/// The first pair of nodes that breaks the rule on listeners.
+// The first pair of nodes that breaks the rule on listeners.
 fn first_by_listener(
     alloc: Global,
     net: &Net,
@@ -113,7 +116,7 @@ fn first_by_listener(
     listener_fault(alloc, net, external, case.graph(), case.prefs())
 }
 
-/// The classes by which the graph of a case has exactly the walks that can still be permitted, or None.
+// The classes by which the graph of a case has exactly the walks that can still be permitted, or None.
 fn walk_classes(
     alloc: Global,
     net: &Net,
@@ -131,7 +134,7 @@ fn walk_classes(
     walks(alloc, net, case.case(), live, case.graph())
 }
 
-/// The first node of a case that hasn't the rank of each walk that ends there.
+// The first node of a case that hasn't the rank of each walk that ends there.
 fn first_unranked(
     alloc: Global,
     case: &CaseEvidence,
@@ -147,7 +150,7 @@ fn first_unranked(
     walk_check::rank_fault(alloc, live, case.graph(), classes)
 }
 
-/// The first node of a case at a claimed router without a rank.
+// The first node of a case at a claimed router without a rank.
 fn first_mixed(net: &Net, case: &CaseEvidence) -> Option<u32>
     ensures { (s : PlainStatement) → IsFaithful net.now s (holds case.now.case.origins) case.now.case.external case.now.graph
         → IsFirstOrNone (λ n. IsClaimed net.now s case.now.case (place_of case.now.graph n) → IsSome (rank_at case.now.graph n)) (length case.now.graph.nodes) result }
@@ -155,7 +158,7 @@ fn first_mixed(net: &Net, case: &CaseEvidence) -> Option<u32>
     mixed_fault(net, case.graph())
 }
 
-/// The first of the rules on loops and on listeners that fails in a case.
+// The first of the rules on loops and on listeners that fails in a case.
 fn loop_or_listener(
     alloc: Global,
     net: &Net,
@@ -174,7 +177,7 @@ fn loop_or_listener(
     Ok(None)
 }
 
-/// The first of the rules on preference numbers that fails in a case.
+// The first of the rules on preference numbers that fails in a case.
 fn number_rules(alloc: Global, net: &Net, case: &CaseEvidence) -> Result<Option<Fault>, NoMemory>
     requires routers { LeadsToRouters net.now case.now.graph }
     ensures { (policy : PlainPolicy) (cs : List PlainCaseEvidence) (k : ℕ) (s : PlainStatement) → IsOfCase policy cs k s case.now
@@ -190,8 +193,8 @@ fn number_rules(alloc: Global, net: &Net, case: &CaseEvidence) -> Result<Option<
     loop_or_listener(alloc, net, case)
 }
 
-/// The first of the rules on ranks and on preference numbers that fails in a case whose graph has the walks of a
-/// faithful one.
+// The first of the rules on ranks and on preference numbers that fails in a case whose graph has the walks of a
+// faithful one.
 fn rank_rules(
     alloc: Global,
     net: &Net,

@@ -27,11 +27,12 @@ use std::alloc::Global;
 pub struct CaseFault {
     /// The number of the case, from 1.
     pub case: u32,
+    /// The rule that fails, and the nodes at which it does.
     pub fault: Fault,
 }
 
 impl CaseFault {
-    /// The cases differ at this number, or a limit is passed there.
+    // The cases differ at this number, or a limit is passed there.
     fn unlisted(case: u32) -> CaseFault
         ensures { result ≡ record { case = case; fault = record { rule = rule.Cases; first = 0; second = 0 } } }
     {
@@ -50,11 +51,13 @@ impl CaseFault {
 /// first of the later rules that fails in it.
 #[derive(Clone, Copy, Debug)]
 pub struct Judged {
+    /// The steps of the case's graph before it is trimmed, at most as many as there was room for.
     pub used: u32,
+    /// The first of the later rules that fails, if one does.
     pub fault: Option<Fault>,
 }
 
-/// Judges a case of the policy with its evidence, or None where that is for another case or a limit is passed.
+// Judges a case of the policy with its evidence, or None where that is for another case or a limit is passed.
 fn judge(
     alloc: Global,
     net: &Net,
@@ -86,7 +89,7 @@ fn judge(
     Ok(Some(Judged { used, fault }))
 }
 
-/// The one of two faults whose rule comes first; of one rule the first one.
+// The one of two faults whose rule comes first; of one rule the first one.
 fn lesser(one: CaseFault, other: CaseFault) -> CaseFault
     ensures { result ≡ lesser_of one other }
 {
@@ -97,7 +100,7 @@ fn lesser(one: CaseFault, other: CaseFault) -> CaseFault
     }
 }
 
-/// The first rule that was found to fail so far, and then in a case.
+// The first rule that was found to fail so far, and then in a case.
 fn least_of(least: Option<CaseFault>, case: u32, fault: Option<Fault>) -> Option<CaseFault>
     ensures { result ≡ least_with least case fault }
 {

@@ -5,7 +5,7 @@ ghost use Rattle.evidence_check.specs.Difference.{lines_behind};
 
 use config_base::{Config, RouterConfig, Session};
 
-/// How many of so many lines are left behind the block of a neighbour, or None where it has more lines.
+// How many of so many lines are left behind the block of a neighbour, or None where it has more lines.
 fn behind_session(lines: u64, session: &Session) -> Option<u64>
     ensures { result ≡ lines_behind lines (session_lines session.now) }
 {
@@ -15,7 +15,7 @@ fn behind_session(lines: u64, session: &Session) -> Option<u64>
         .checked_sub(session.exports.as_slice().len() as u64)
 }
 
-/// How many are left behind the blocks of all neighbours.
+// How many are left behind the blocks of all neighbours.
 fn behind_sessions(lines: u64, sessions: &[Session]) -> Option<u64>
     ensures { result ≡ lines_behind lines (all_session_lines sessions.now) }
 {
@@ -26,7 +26,7 @@ fn behind_sessions(lines: u64, sessions: &[Session]) -> Option<u64>
     Some(left)
 }
 
-/// How many are left behind the block of a router.
+// How many are left behind the block of a router.
 fn behind_router(lines: u64, router: &RouterConfig) -> Option<u64>
     ensures { result ≡ lines_behind lines (router_lines router.now) }
 {
@@ -35,7 +35,7 @@ fn behind_router(lines: u64, router: &RouterConfig) -> Option<u64>
     behind_sessions(left, router.sessions.as_slice())
 }
 
-/// The number of the router, from 0, in whose block the line stands that comes after so many others; 0 where it is in none.
+// The number of the router, from 0, in whose block the line stands that comes after so many others; 0 where it is in none.
 fn block_behind(routers: &[RouterConfig], lines: u64) -> u32
     requires { length routers.now < 2 ^ 32 }
     ensures { result ≡ block_after 0 lines routers.now }

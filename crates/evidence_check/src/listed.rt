@@ -21,7 +21,7 @@ use policy_base::{Case, FromSet, Statement};
 use std::alloc::Global;
 use walk_states::{StandingsFault, standings};
 
-/// The expressions of a statement's alternatives, or None where there are too many.
+// The expressions of a statement's alternatives, or None where there are too many.
 fn expanded(alloc: Global, net: &Net, statement: &Statement) -> Result<Option<RankedExpr>, NoMemory>
     ensures ranks { IfOk result (λ o. IfSome o (λ _. alternative_count (ranking_of statement.now.ranked) ≤ ALTERNATIVES)) }
     ensures expressions { IfOk result (λ o. IfSome o (λ r. r ≡ expressions net.now (ranking_of statement.now.ranked))) }
@@ -34,7 +34,7 @@ fn expanded(alloc: Global, net: &Net, statement: &Statement) -> Result<Option<Ra
     }
 }
 
-/// The graph over the standings of a case, by an automaton of its own, or that there are too many of these.
+// The graph over the standings of a case, by an automaton of its own, or that there are too many of these.
 fn gathered(
     alloc: Global,
     net: &Net,
@@ -51,7 +51,7 @@ fn gathered(
     Ok(graph)
 }
 
-/// The graph over the standings of a case, or None where there are too many of these or too many steps.
+// The graph over the standings of a case, or None where there are too many of these or too many steps.
 fn walked(
     alloc: Global,
     net: &Net,

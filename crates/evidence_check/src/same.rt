@@ -4,6 +4,7 @@ ghost use Rattle.std.specs.Prelude.{◌≡◌, ◌↔◌, IsTrue};
 use net_base::Prefix;
 use policy_base::Case;
 
+// Whether two lists have the same prefixes in the same order.
 fn are_same_prefixes(one: &[Prefix], other: &[Prefix]) -> bool
     ensures { IsTrue result ↔ one.now ≡ other.now }
 {

@@ -25,7 +25,7 @@ pub struct CaseNode {
     pub node: u32,
 }
 
-/// The AS number of a location, 0 where the network has no such location.
+// The AS number of a location, 0 where the network has no such location.
 fn asn_of(net: &Net, at: Loc) -> u32
     ensures { result ≡ asn_at net.now at }
 {
@@ -36,7 +36,7 @@ fn asn_of(net: &Net, at: Loc) -> u32
     }
 }
 
-/// Whether the tag of a node is right by itself: it has the AS number of the node's router, and at a peer there is none.
+// Whether the tag of a node is right by itself: it has the AS number of the node's router, and at a peer there is none.
 fn is_right(net: &Net, at: Loc, tag: Tag) -> bool
     ensures { result ≡ is_right_tag net.now at tag }
 {
@@ -47,7 +47,7 @@ fn is_right(net: &Net, at: Loc, tag: Tag) -> bool
     }
 }
 
-/// Puts a tag behind those that were seen, unless it is there; says whether it is new.
+// Puts a tag behind those that were seen, unless it is there; says whether it is new.
 fn note(seen: &mut IndexSet<Tag>, tag: Tag) -> Result<bool, NoMemory>
     ensures fresh { IfOk result (λ new. new ≡ not (list_any (same_tag tag) seen.old.keys)) }
     ensures added { IfOk result (λ new. IsTrue new → seen.new.keys ≡ seen.old.keys ++ tag ∷ []) }
@@ -55,21 +55,21 @@ fn note(seen: &mut IndexSet<Tag>, tag: Tag) -> Result<bool, NoMemory>
     Ok(seen.insert(tag)?)
 }
 
-/// How many nodes the graph of a case has.
+// How many nodes the graph of a case has.
 fn node_count(case: &CaseEvidence) -> u32
     ensures { result ≡ length case.now.graph.nodes }
 {
     case.graph().nodes().len() as u32
 }
 
-/// The tag of a node.
+// The tag of a node.
 fn tag_of(case: &CaseEvidence, node: u32) -> Tag
     ensures { result ≡ tag_at case.now node }
 {
     case.tags().get(node as usize).copied().unwrap_or(NO_TAG)
 }
 
-/// Whether the tag of a node is right by itself and, at a router, was not seen before; then it is seen from now on.
+// Whether the tag of a node is right by itself and, at a router, was not seen before; then it is seen from now on.
 fn is_kept(
     net: &Net,
     case: &CaseEvidence,
@@ -95,7 +95,7 @@ fn is_kept(
     note(seen, tag)
 }
 
-/// The first node of a case whose tag breaks the rule.
+// The first node of a case whose tag breaks the rule.
 fn node_fault(
     net: &Net,
     case: &CaseEvidence,
@@ -123,7 +123,7 @@ pub(crate) fn case_number(place: usize) -> Result<u32, NoMemory>
     Ok(place as u32 + 1)
 }
 
-/// How many nodes all cases have. No clause says it: with less room the tags that were seen grow.
+// How many nodes all cases have. No clause says it: with less room the tags that were seen grow.
 fn all_nodes(evidence: &[CaseEvidence]) -> usize {
     let mut count = 0usize;
     for case in evidence {

@@ -20,6 +20,7 @@ use net_base::Net;
 use policy_base::{Policy, cases};
 use std::alloc::Global;
 
+// The verdict that a rule fails in a case. No line of the configuration is shown.
 fn of_case(found: CaseFault) -> Verdict
     ensures { result ≡ Fails found.fault.rule (record { case = found.case; first = found.fault.first; second = found.fault.second; line = 0 }) }
 {
@@ -34,6 +35,7 @@ fn of_case(found: CaseFault) -> Verdict
     )
 }
 
+// The verdict that the tag of a node is wrong.
 fn of_tag(at: CaseNode) -> Verdict
     ensures { result ≡ Fails Tags (record { case = at.case; first = at.node; second = 0; line = 0 }) }
 {

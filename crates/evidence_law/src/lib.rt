@@ -1,8 +1,23 @@
-//! What is asked of the evidence for a configuration, and the laws that evidence which passes makes the configuration right.
+//! What is asked of the evidence for a configuration, and the laws that evidence which passes makes the configuration right; no code.
 //!
-//! There is no code here. `specs/Faithful` and `specs/Passes` say what is asked of evidence: a graph for each case of the policy, with
-//! a number and a tag for each node. The laws of `specs/Laws` say what follows for the outcomes of `outcome_base`. They stand on those
-//! of `routing_law`, which know no policy.
+//! `specs/Faithful` says when a graph says of walks what a statement says of them. It has a run for exactly the walks that can still be
+//! permitted, and its ranks are theirs. `specs/Passes` says the rest: a graph for each case of the policy, tags that differ, the
+//! configuration that is made of it, numbers that meet the rules, and cases within the limits (`Passes`).
+//!
+//! The laws (`specs/Laws`) speak of the outcomes of `outcome_base`, in the words of the claim alone:
+//!
+//! - `used_paths_are_allowed`: whatever the numbers are, only allowed paths are used.
+//! - `passing_evidence_is_right`: where the evidence passes, each claimed source has besides the best rank that survives, and none only
+//!   where none does.
+//! - `stable_outcomes_exist`: whatever fails, there is a stable outcome of each prefix.
+//!
+//! `limits::STEPS` bounds the steps of all cases together. The laws stand on those of `routing_law`, which speak of abstract networks, so
+//! that none of their lemmas speaks of lists. Here the real types come to them. The network's part is taken apart from the graph's: imports
+//! are asked of a path without locations, so the rule against loops is stated by itself (RFC 4271, 9.1.2). Since AS numbers differ, it
+//! becomes a rule on locations. What the claim says has its definitions below, in crates that have never heard of evidence: a reader of the
+//! claim needs none of this.
+//!
+//! It knows nothing of the compiler.
 #![tactic(auto)]
 
 ghost use Rattle.evidence_law.specs.Laws.{FaithfulIsWalksAndRanks, PassingEvidenceIsRight, RunsAreWalks, StableOutcomesExist, UsedPathsAreAllowed};

@@ -1,4 +1,6 @@
-//! The evidence of a configuration that may take over from an old one, while the network runs.
+//! The evidence of a configuration that may take over from an old one while the network runs: what is compiled, with tags
+//! that the old one leaves free and preferences above its own; and that it passes, that no tag stands in both, and that each
+//! preference is above the old ones.
 //!
 //! It is the evidence that the compiler finds, case by case with the same graph, but for two things: each tag is one that stands nowhere in
 //! the old configuration (`free_tags`), and each preference number at a router is raised by the greatest preference of the old one
@@ -8,7 +10,9 @@
 //!
 //! `renewed_evidence` makes it, or says that a preference would pass 4,294,967,295. What is so of it are laws, with no code.
 //!
-//! Nothing here knows a text, a command, or how stages are made.
+//! `renew` and `renewal` alone need it.
+//!
+//! It knows nothing of texts, or of how stages are made.
 #![tactic(auto)]
 
 mod fault;

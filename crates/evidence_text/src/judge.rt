@@ -91,6 +91,7 @@ fn read_case(alloc: Global, raw: &RawCase) -> Result<ReadCase, EvidenceFault>
     })
 }
 
+// The cases, where all of their numbers are in their ranges; else the first part that holds one that isn't.
 fn read_cases(alloc: Global, raw: &[RawCase]) -> Result<List<ReadCase>, EvidenceFault>
     requires { AllByRecursion HasRanges raw.now }
     ensures { GivesUnless EvidenceFault.NoMemory (λ v. v) result (each numbered_case raw.now) }
@@ -116,12 +117,14 @@ pub fn numbered(alloc: Global, raw: &RawEvidence) -> Result<ReadText, EvidenceFa
     }
 }
 
+// Whether each start is one of so many nodes.
 fn starts_are_nodes(count: usize, starts: &[u32]) -> bool
     ensures { result ≡ list_all (λ n. nat_lt n count) starts.now }
 {
     starts.iter().all(|node| (*node as usize) < count)
 }
 
+// Whether both ends of each step are among so many nodes.
 fn steps_join_nodes(count: usize, steps: &[(u32, u32)]) -> bool
     ensures { result ≡ list_all (λ s. nat_lt s.0 count && nat_lt s.1 count) steps.now }
 {

@@ -54,11 +54,17 @@ fn rank(number: u32) -> Option<u32>
 /// The six numbers of a node.
 #[derive(Clone, Copy)]
 pub struct Numbers {
+    /// The location, from 0 to 767.
     pub location: Option<u32>,
+    /// Whether the node stands at a peer that hears: 1, or 0 where it doesn't.
     pub listener: Option<u32>,
+    /// The rank, from 1, or 0 for none.
     pub rank: Option<u32>,
+    /// The preference number.
     pub number: Option<u32>,
+    /// The AS number of the tag.
     pub asn: Option<u32>,
+    /// The value of the tag.
     pub value: Option<u32>,
 }
 

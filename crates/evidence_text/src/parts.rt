@@ -3,16 +3,27 @@
 /// A part of an evidence text.
 #[derive(Clone, Copy, Debug, PartialEq, Eq)]
 pub enum Field {
+    /// The object of the text.
     Top,
+    /// Its version.
     Version,
+    /// The array of cases.
     Cases,
+    /// A case.
     Case,
+    /// The number of a case's statement.
     Statement,
+    /// The prefixes of a case.
     Prefixes,
+    /// The origins of a case.
     Origins,
+    /// Whether a case is external.
     External,
+    /// The nodes of a case.
     Nodes,
+    /// The starts of a case.
     Starts,
+    /// The steps of a case.
     Steps,
 }
 

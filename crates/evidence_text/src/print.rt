@@ -19,16 +19,16 @@ use net_base::{Loc, LocSet, Prefix, Tag};
 use std::alloc::Global;
 use text_parts::{push_bytes, push_number, push_prefix};
 
-/// As many bytes as most cases have beside their prefixes, nodes and steps.
+// As many bytes as most cases have beside their prefixes, nodes and steps.
 const CASE_BYTES: usize = 128;
 
-/// As many bytes as most prefixes have.
+// As many bytes as most prefixes have.
 const PREFIX_BYTES: usize = 16;
 
-/// As many bytes as most nodes have.
+// As many bytes as most nodes have.
 const NODE_BYTES: usize = 24;
 
-/// As many bytes as most steps have.
+// As many bytes as most steps have.
 const STEP_BYTES: usize = 12;
 
 // Adds a comma before every item but the first one.
@@ -171,6 +171,7 @@ fn truth(value: bool) -> &'static [u8]
     if value { b"true" } else { b"false" }
 }
 
+// Adds a truth value.
 fn push_truth(text: &mut Vec<u8>, value: bool) -> Result<(), NoMemory>
     ensures { OnOk result (text.new.items ≡ text.old.items ++ compact_text (Data.boolean value)) }
 {

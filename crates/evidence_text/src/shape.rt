@@ -139,6 +139,7 @@ fn prefix(value: &Value) -> Result<Prefix, EvidenceFault>
     }
 }
 
+// The nodes of an array, or the first part that is not as it should be.
 fn nodes(alloc: Global, values: &[Value]) -> Result<List<Option<NodeEntry>>, EvidenceFault>
     ensures { GivesUnless EvidenceFault.NoMemory (λ v. v) result (each node_of (map view values.now)) }
 {
@@ -150,6 +151,7 @@ fn nodes(alloc: Global, values: &[Value]) -> Result<List<Option<NodeEntry>>, Evi
     Ok(List::from_vec(all))
 }
 
+// The steps of an array, or the first part that is not as it should be.
 fn steps(alloc: Global, values: &[Value]) -> Result<List<Option<(u32, u32)>>, EvidenceFault>
     ensures { GivesUnless EvidenceFault.NoMemory (λ v. v) result (each step_of (map view values.now)) }
 {
@@ -161,6 +163,7 @@ fn steps(alloc: Global, values: &[Value]) -> Result<List<Option<(u32, u32)>>, Ev
     Ok(List::from_vec(all))
 }
 
+// The prefixes of an array, or the first part that is not as it should be.
 fn prefixes(alloc: Global, values: &[Value]) -> Result<List<Prefix>, EvidenceFault>
     ensures { GivesUnless EvidenceFault.NoMemory (λ v. v) result (each prefix_of (map view values.now)) }
 {
@@ -318,6 +321,7 @@ fn case(alloc: Global, value: &Value) -> Result<RawCase, EvidenceFault>
     })
 }
 
+// The cases of an array, or the first part that is not as it should be.
 fn cases(alloc: Global, values: &[Value]) -> Result<List<RawCase>, EvidenceFault>
     ensures { GivesUnless EvidenceFault.NoMemory (λ v. v) result (each case_of (map view values.now)) }
 {

@@ -14,7 +14,9 @@ use std::alloc::Global;
 /// A pattern, with the number of its statement, from 1.
 #[derive(Clone, Copy, Debug, PartialEq, Eq, Hash)]
 pub struct Stated {
+    /// The number of the statement, from 1.
     pub statement: u32,
+    /// The pattern.
     pub pattern: Pattern,
 }
 

@@ -15,7 +15,9 @@ use std::alloc::Global;
 /// How far the values with an AS number have been counted: so many up to this one are free.
 #[derive(Clone, Copy, Debug, PartialEq, Eq)]
 pub struct Reached {
+    /// How many of the values from 1 up to `value` are free.
     pub count: u32,
+    /// The value up to which they have been counted, or 0 before the first.
     pub value: u32,
 }
 

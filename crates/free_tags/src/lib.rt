@@ -1,4 +1,4 @@
-//! What a configuration takes of tags and of preferences, and the least tags that it leaves free.
+//! Which tags and preferences stand in a configuration, the k-th value that a router's tags leave free there, and the greatest preference.
 //!
 //! A new configuration may run beside an old one where no tag stands in both. So its nodes are given tags again: at a router the
 //! k-th of them gets the k-th value, from 1, that stands in no tag of the old configuration with that router's AS number
@@ -8,7 +8,9 @@
 //! Where so many tags are taken that a router has too few values left, want of memory is answered: those tags alone would fill
 //! 32 GB.
 //!
-//! Nothing here knows a network, a policy, a graph or a text.
+//! `renew` and `renewal` alone need it.
+//!
+//! It knows nothing of networks, policies, graphs and texts.
 #![tactic(auto)]
 
 mod free;

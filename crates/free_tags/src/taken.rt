@@ -18,7 +18,7 @@ use config_base::{Config, Export, Import, Origination, RouterConfig, Session};
 use net_base::Tag;
 use std::alloc::{AllocError, Global};
 
-/// Adds the tags that imports ask for and set.
+// Adds the tags that imports ask for and set.
 fn add_imports(tags: &mut Vec<Tag>, imports: &[Import]) -> Result<(), AllocError>
     ensures { OnOk result (tags.new.items ≡ tags.old.items ++ flat_map tags_of_import imports.now) }
 {
@@ -29,7 +29,7 @@ fn add_imports(tags: &mut Vec<Tag>, imports: &[Import]) -> Result<(), AllocError
     Ok(())
 }
 
-/// Adds the tags for which exports ask.
+// Adds the tags for which exports ask.
 fn add_exports(tags: &mut Vec<Tag>, exports: &[Export]) -> Result<(), AllocError>
     ensures { OnOk result (tags.new.items ≡ tags.old.items ++ map tag_of_export exports.now) }
 {
@@ -39,7 +39,7 @@ fn add_exports(tags: &mut Vec<Tag>, exports: &[Export]) -> Result<(), AllocError
     Ok(())
 }
 
-/// Adds the tags of a router's own routes.
+// Adds the tags of a router's own routes.
 fn add_own(tags: &mut Vec<Tag>, own: &[Origination]) -> Result<(), AllocError>
     ensures { OnOk result (tags.new.items ≡ tags.old.items ++ map tag_of_own own.now) }
 {
@@ -49,7 +49,7 @@ fn add_own(tags: &mut Vec<Tag>, own: &[Origination]) -> Result<(), AllocError>
     Ok(())
 }
 
-/// Adds the tags of the blocks of neighbours.
+// Adds the tags of the blocks of neighbours.
 fn add_sessions(tags: &mut Vec<Tag>, sessions: &[Session]) -> Result<(), AllocError>
     ensures { OnOk result (tags.new.items ≡ tags.old.items ++ flat_map tags_of_session sessions.now) }
 {
@@ -60,7 +60,7 @@ fn add_sessions(tags: &mut Vec<Tag>, sessions: &[Session]) -> Result<(), AllocEr
     Ok(())
 }
 
-/// Adds the tags of the blocks of routers.
+// Adds the tags of the blocks of routers.
 fn add_routers(tags: &mut Vec<Tag>, routers: &[RouterConfig]) -> Result<(), AllocError>
     ensures { OnOk result (tags.new.items ≡ tags.old.items ++ flat_map tags_of_router routers.now) }
 {
@@ -80,7 +80,7 @@ pub fn tags_of_config(alloc: Global, config: &Config) -> Result<Vec<Tag>, AllocE
     Ok(tags)
 }
 
-/// The greatest of a number and the preferences of imports.
+// The greatest of a number and the preferences of imports.
 fn top_of_imports(top: u32, imports: &[Import]) -> u32
     ensures { result ≡ fold max top (map pref_of_import imports.now) }
 {
@@ -91,7 +91,7 @@ fn top_of_imports(top: u32, imports: &[Import]) -> u32
     most
 }
 
-/// The greatest of a number and the preferences in blocks of neighbours.
+// The greatest of a number and the preferences in blocks of neighbours.
 fn top_of_sessions(top: u32, sessions: &[Session]) -> u32
     ensures { result ≡ fold max top (flat_map prefs_of_session sessions.now) }
 {

@@ -1,8 +1,9 @@
-//! The laws of the grammar of policies.
+//! The grammar of policies by itself, and the laws that what is read is just that. There is no code here.
 //!
-//! There is no code here. `specs/Grammar` states the grammar by itself, a type a rule, `specs/Fronts` says with which tokens a
-//! policy may begin, and `specs/Spans` where the tokens of a text stand. Each function below is the proof of the law in its
-//! contract: that the functions of `policy_tokens` and `policy_grammar`, by which texts are read, read just that.
+//! `specs/Grammar` states the grammar, a type a rule, `specs/Fronts` says with which tokens a policy may begin, and
+//! `specs/Spans` where the tokens of a text stand. Each function below is the proof of the law in its contract: that the
+//! functions of `policy_tokens` and `policy_grammar`, by which texts are read, read just that. So the grammar is stated
+//! twice, there as functions that read and here by itself, and a reader need believe only this statement.
 //!
 //! | Law | It says |
 //! |---|---|
@@ -15,6 +16,10 @@
 //!
 //! The grammar has no limit on brackets. What is read has one, which is a fault of its own: `first_deep` finds a bracket that
 //! opens while 64 are open, and a text that has one is refused before its grammar is judged.
+//!
+//! Compiling doesn't need it.
+//!
+//! It knows nothing of what names mean.
 #![tactic(auto)]
 
 ghost use Rattle.std.specs.List.{AllByRecursion};

@@ -39,13 +39,14 @@ pub fn walk_of(alloc: Global, graph: &Graph, node: u32) -> Result<List<Loc>, NoM
     Ok(walk)
 }
 
+// Whether a node is a start.
 fn is_start(graph: &Graph, node: u32) -> bool
     ensures { result ≡ is_start_of graph.now node }
 {
     graph.starts().contains(&node)
 }
 
-/// For each node the least-numbered node that steps to it, and the greatest number where no node does.
+// For each node the least-numbered node that steps to it, and the greatest number where no node does.
 fn firsts_before(alloc: Global, graph: &Graph) -> Result<Vec<u32>, AllocError>
     ensures size { IfOk result (λ firsts. length firsts.items ≡ length graph.now.nodes) }
     ensures first { IfOk result (λ firsts. (m n : ℕ) → IsTrue (has_step graph.now m n) → IsFirstBefore graph.now (slice_index_or firsts.items n 0) n) }

@@ -11,6 +11,7 @@ pub const MAX_NODES: usize = 4_294_967_000;
 /// A location with what is known of the walk that led there from an origin.
 #[derive(Clone, Copy, Debug, PartialEq, Eq)]
 pub struct Node {
+    /// The location to which the walk has come.
     pub loc: Loc,
     /// Whether the node stands at a peer that hears.
     pub listener: bool,
@@ -115,11 +116,13 @@ impl Graph {
 /// A preference number for each node of a graph.
 #[derive(Drop)]
 pub struct Prefs {
+    /// For each node, in order, its number: at a router the local preference of its routes (RFC 4271, 5.1.5).
     pub of: List<u32>,
 }
 
 /// The tags of each graph's nodes.
 #[derive(Drop)]
 pub struct Tags {
+    /// For each graph a list with the tag of each node.
     pub of: List<List<Tag>>,
 }

@@ -8,7 +8,7 @@ ghost use Rattle.graph_base.specs.Ranked.{IsRankedRouter};
 use crate::graph::{Graph, Node};
 use net_base::{LocSet, Net};
 
-/// Whether a node stands at a router and has a rank.
+// Whether a node stands at a router and has a rank.
 fn is_ranked(net: &Net, node: Node) -> bool
     ensures exact { result ≡ (is_router net.now node.loc && is_some node.rank) }
     ensures within { IsTrue result → node.loc < LOCATIONS }

@@ -20,9 +20,13 @@ pub enum Why {
 /// The first node may not stand at least as high as the second: the round in which that was found, and why.
 #[derive(Clone, Copy, Debug, PartialEq, Eq)]
 pub struct Removed {
+    /// The number, from 0, of the node that may not stand as high.
     pub better: u32,
+    /// The number, from 0, of the node over which it may not stand, at the same location.
     pub worse: u32,
+    /// The round, from 1, in which that was found. What its reason rests on was found in an earlier one.
     pub round: u64,
+    /// The reason.
     pub why: Why,
 }
 
@@ -30,8 +34,12 @@ pub struct Removed {
 /// show it. The first has the lesser number, or is the second.
 #[derive(Drop)]
 pub struct Refutation {
+    /// Where both nodes stand.
     pub router: Loc,
+    /// The number of the first node, from 0.
     pub first: u32,
+    /// The number of the second node, from 0, no less than that of the first.
     pub second: u32,
+    /// The lines that show it, in ascending order of round.
     pub lines: List<Removed>,
 }

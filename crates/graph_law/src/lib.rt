@@ -1,4 +1,19 @@
-//! What the graph of a case says of walks.
+//! The laws of the graph of a case: it is well formed, its runs are the walks that can still be permitted, the trimmed graph is faithful,
+//! and its ranks show which routers are claimed; no code.
+//!
+//! - `built_graphs_are_well_formed`: a built graph is over the network, and each node but the starts is entered from one with a lesser
+//!   number.
+//! - `runs_are_walks_that_are_not_dead`: a walk has a run exactly where some alternative can still be met all along, and the run ends in
+//!   the node of where it stands.
+//! - `trimmed_graphs_are_faithful`: what is left, where only nodes from which a rank can be reached are kept, has a run for exactly the
+//!   walks that are a suffix of a permitted one, and their ranks.
+//! - `claimed_routers_are_ranked`: the routers that a policy claims are read off the graph, as those at which a node has a rank. So nobody
+//!   searches for permitted walks to tell who is claimed.
+//!
+//! They speak of any graph that is built of a case (`IsBuilt`) or faithful to it, whoever made it. So they hold of the graph that a
+//! compiler makes and of the one that a judge of evidence makes anew, and the graph that evidence brings is compared with that.
+//!
+//! It knows nothing of any crate that compiles.
 #![tactic(auto)]
 
 ghost use Rattle.std.specs.Prelude.{◌≡◌, ◌↔◌, ◌<◌, ◌≤◌, ◌∷◌, ℕ, IsSome, IsTrue, List, Some, is_some, length, slice_get};

@@ -1,4 +1,18 @@
-//! What the program says of itself: what each command is for, how it is used, and which version this is.
+//! What the program says of itself: a line for each command, a page for each, the usage and the version.
+//!
+//! Each is one constant, and the definition of what a run writes names it (`help_text`, `version_text` of `specs/Pages`). So
+//! a text isn't written twice, once in code and once in what is promised of it. `Topic` is a command as its word names it,
+//! and the one place where the words of the commands stand: which words are which command is asked of it, and `help` finds
+//! its page by it.
+//!
+//! All pages have one form: the usage, paragraphs, and the sections `reads`, `writes`, `status` and `example`, each of lines
+//! with two blanks in front, none longer than 80 columns. A test of tools/ asks that form of each. So a manual page and
+//! completions can be made of them. Words that are no command get the usage line alone, and `help` of such a word is no
+//! command either.
+//!
+//! A reader begins with `help` and `version`. A new command needs a variant of `Topic`, its page, and its line in `COMMANDS`.
+//!
+//! It knows nothing of what a command does.
 #![tactic(auto)]
 
 ghost use Rattle.std.specs.Prelude.{◌≡◌};

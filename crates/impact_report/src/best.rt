@@ -7,14 +7,14 @@ ghost use Rattle.impact_report.specs.Tops.{AreBest, is_better};
 use evidence_base::CaseEvidence;
 use std::alloc::{AllocError, Global};
 
-/// The preference number of a node.
+// The preference number of a node.
 fn number_of(case: &CaseEvidence, node: u32) -> u32
     ensures { result ≡ number_at case.now node }
 {
     case.prefs().get(node as usize).copied().unwrap_or(0)
 }
 
-/// Whether a node has a greater number than the best one so far, or there is none.
+// Whether a node has a greater number than the best one so far, or there is none.
 fn is_over(case: &CaseEvidence, node: u32, best: Option<u32>) -> bool
     ensures { result ≡ is_better case.now node best }
 {

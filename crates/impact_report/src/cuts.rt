@@ -12,7 +12,7 @@ use net_base::{Loc, Net};
 use scenarios::Survivors;
 use std::alloc::{AllocError, Global};
 
-/// Whether two locations are the ends of a link, either first.
+// Whether two locations are the ends of a link, either first.
 fn joined(a: Loc, b: Loc, link: (Loc, Loc)) -> bool
     ensures { result ≡ joins a b link }
 {
@@ -39,7 +39,7 @@ pub fn spares(cut: &Cut, a: Loc, b: Loc) -> bool
     }
 }
 
-/// Adds the links that live.
+// Adds the links that live.
 fn push_links(cuts: &mut Vec<Cut>, net: &Net, survivors: &Survivors) -> Result<(), AllocError>
     ensures { OnOk result (cuts.new.items ≡ cuts.old.items ++ link_cuts net.now survivors.now net.now.links) }
 {
@@ -51,7 +51,7 @@ fn push_links(cuts: &mut Vec<Cut>, net: &Net, survivors: &Survivors) -> Result<(
     Ok(())
 }
 
-/// Adds the routers, of so many, that live.
+// Adds the routers, of so many, that live.
 fn push_routers(cuts: &mut Vec<Cut>, count: u16, survivors: &Survivors) -> Result<(), AllocError>
     ensures { OnOk result (cuts.new.items ≡ cuts.old.items ++ router_cuts survivors.now count) }
 {

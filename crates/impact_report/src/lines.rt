@@ -9,7 +9,7 @@ use net_base::Net;
 use outcome_report::{push_next, push_source};
 use text_parts::{push_bytes, push_number};
 
-/// Adds a rank, or that there is none.
+// Adds a rank, or that there is none.
 fn push_rank(text: &mut Vec<u8>, rank: Option<u32>) -> Result<(), NoMemory>
     ensures { OnOk result (text.new.items ≡ text.old.items ++ rank_text rank) }
 {
@@ -22,7 +22,7 @@ fn push_rank(text: &mut Vec<u8>, rank: Option<u32>) -> Result<(), NoMemory>
     }
 }
 
-/// Adds the line of a source with its best rank.
+// Adds the line of a source with its best rank.
 #[tactic(auto, unfolding(crate::specs::Texts::entry_line))]
 fn push_entry(text: &mut Vec<u8>, net: &Net, entry: &SourceRank) -> Result<(), NoMemory>
     ensures { OnOk result (text.new.items ≡ text.old.items ++ entry_line net.now entry.now) }
@@ -32,7 +32,7 @@ fn push_entry(text: &mut Vec<u8>, net: &Net, entry: &SourceRank) -> Result<(), N
     push_bytes(text, b"\n")
 }
 
-/// Adds the lines of sources.
+// Adds the lines of sources.
 fn push_entries(text: &mut Vec<u8>, net: &Net, entries: &[SourceRank]) -> Result<(), NoMemory>
     ensures { OnOk result (text.new.items ≡ text.old.items ++ flat_map (entry_line net.now) entries.now) }
 {
@@ -42,7 +42,7 @@ fn push_entries(text: &mut Vec<u8>, net: &Net, entries: &[SourceRank]) -> Result
     Ok(())
 }
 
-/// Adds the line of a source with its best rank where nothing is cut.
+// Adds the line of a source with its best rank where nothing is cut.
 fn push_base_entry(text: &mut Vec<u8>, net: &Net, entry: &SourceRank) -> Result<(), NoMemory>
     ensures { OnOk result (text.new.items ≡ text.old.items ++ base_line net.now entry.now) }
 {
@@ -60,7 +60,7 @@ pub fn push_base(text: &mut Vec<u8>, net: &Net, base: &[SourceRank]) -> Result<(
     Ok(())
 }
 
-/// Adds what is cut.
+// Adds what is cut.
 fn push_cut(text: &mut Vec<u8>, net: &Net, cut: Cut) -> Result<(), NoMemory>
     ensures { OnOk result (text.new.items ≡ text.old.items ++ cut_text net.now cut) }
 {
@@ -77,14 +77,14 @@ fn push_cut(text: &mut Vec<u8>, net: &Net, cut: Cut) -> Result<(), NoMemory>
     }
 }
 
-/// Whether a cut changes a rank.
+// Whether a cut changes a rank.
 fn changes_rank(row: &CutRow) -> bool
     ensures { result ≡ changes row.now }
 {
     !row.changed.as_slice().is_empty()
 }
 
-/// Adds the lines of a cut and of what it changes.
+// Adds the lines of a cut and of what it changes.
 #[tactic(auto, unfolding(crate::specs::Texts::row_text))]
 fn push_row(text: &mut Vec<u8>, net: &Net, row: &CutRow) -> Result<(), NoMemory>
     ensures { OnOk result (text.new.items ≡ text.old.items ++ row_text net.now row.now) }
@@ -109,7 +109,7 @@ pub fn push_rows(text: &mut Vec<u8>, net: &Net, rows: &[CutRow]) -> Result<usize
     Ok(told)
 }
 
-/// Adds how many routers a cut moves to another route, and how many to another multipath set.
+// Adds how many routers a cut moves to another route, and how many to another multipath set.
 #[tactic(auto, unfolding(crate::specs::Texts::counts_text))]
 fn push_moved(text: &mut Vec<u8>, moves: Moves) -> Result<(), NoMemory>
     ensures { OnOk result (text.new.items ≡ text.old.items ++ counts_text moves) }
@@ -121,7 +121,7 @@ fn push_moved(text: &mut Vec<u8>, moves: Moves) -> Result<(), NoMemory>
     push_bytes(text, b"\n")
 }
 
-/// Adds the lines of a cut, of how many routers it moves and of what it changes.
+// Adds the lines of a cut, of how many routers it moves and of what it changes.
 #[tactic(auto, unfolding(crate::specs::Texts::moves_text))]
 fn push_moves(text: &mut Vec<u8>, net: &Net, row: &CutRow, moves: Moves) -> Result<(), NoMemory>
     ensures { OnOk result (text.new.items ≡ text.old.items ++ moves_text net.now (row.now, moves)) }
@@ -131,7 +131,7 @@ fn push_moves(text: &mut Vec<u8>, net: &Net, row: &CutRow, moves: Moves) -> Resu
     push_entries(text, net, row.changed.as_slice())
 }
 
-/// Whether a cut changes a rank or moves a router.
+// Whether a cut changes a rank or moves a router.
 fn has_effect(row: &CutRow, moves: Moves) -> bool
     ensures { result ≡ changes_or_moves (row.now, moves) }
 {

@@ -20,8 +20,11 @@ use std::alloc::Global;
 /// What failures leave of the graph of a case, with the nodes to which a step leads from each.
 #[derive(Drop)]
 pub struct Paths<'a> {
+    /// The case, with its whole graph and its numbers.
     pub case: &'a CaseEvidence,
+    /// What is left of the graph.
     pub left: Graph,
+    /// For each node the nodes to which a step leads from it in what is left.
     pub lists: Vec<NodeList>,
 }
 

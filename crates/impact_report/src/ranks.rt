@@ -8,7 +8,7 @@ use bit_rows::NodeList;
 use graph_base::Graph;
 use net_base::Loc;
 
-/// The nodes to which a node steps.
+// The nodes to which a node steps.
 fn nodes_from(lists: &[NodeList], node: u32) -> &[u32]
     requires { node < length lists.now }
     ensures { result.now ≡ slice_index_or lists.now node [] }
@@ -16,7 +16,7 @@ fn nodes_from(lists: &[NodeList], node: u32) -> &[u32]
     lists[node as usize].as_slice()
 }
 
-/// The rank of the node to which a node steps at a peer, where it steps there.
+// The rank of the node to which a node steps at a peer, where it steps there.
 fn rank_at_peer(graph: &Graph, lists: &[NodeList], node: u32, peer: Loc) -> Option<u32>
     requires node { node < length graph.now.nodes }
     requires lists { AreStepLists graph.now lists.now }
@@ -30,7 +30,7 @@ fn rank_at_peer(graph: &Graph, lists: &[NodeList], node: u32, peer: Loc) -> Opti
     None
 }
 
-/// The rank that a node tells of a router, or of its session to a peer.
+// The rank that a node tells of a router, or of its session to a peer.
 fn rank_of_node(graph: &Graph, lists: &[NodeList], node: u32, peer: Option<Loc>) -> Option<u32>
     requires node { node < length graph.now.nodes }
     requires lists { AreStepLists graph.now lists.now }

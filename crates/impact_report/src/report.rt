@@ -26,7 +26,7 @@ use policy_base::Policy;
 use scenarios::{Scenario, Survivors};
 use std::alloc::{AllocError, Global};
 
-/// Sources with the ranks that tops tell.
+// Sources with the ranks that tops tell.
 fn ranked(
     alloc: Global,
     paths: &Paths<'_>,
@@ -48,7 +48,7 @@ fn ranked(
     Ok(ranks)
 }
 
-/// The base and the rows by the graph of a case.
+// The base and the rows by the graph of a case.
 fn found_by(
     alloc: Global,
     net: &Net,
@@ -69,7 +69,7 @@ fn found_by(
     Ok(Impact { base: ranks, rows })
 }
 
-/// The rows of cuts that change nothing.
+// The rows of cuts that change nothing.
 fn unchanged(alloc: Global, cuts: &[Cut]) -> Result<List<CutRow>, AllocError>
     ensures { IfOk result (λ rows. rows ≡ map (λ cut. row_of cut []) cuts.now) }
 {

@@ -18,8 +18,11 @@ use std::alloc::{AllocError, Global};
 /// The claimed sources with their best ranks under failures, and what finds those that a cut besides leaves.
 #[derive(Drop)]
 pub struct Base<'a> {
+    /// The network.
     pub net: &'a Net,
+    /// What the failures leave of the graph of the prefix's case.
     pub paths: Paths<'a>,
+    /// The claimed sources in order, each with its best rank under the failures.
     pub ranks: List<SourceRank>,
 }
 
@@ -27,7 +30,7 @@ impl Base<'_> {
     ghost use Rattle.std.specs.Prelude.{◌≡◌, IfOk, map};
     ghost use Rattle.impact_report.specs.Paths.{rank_under};
 
-    /// The rank of a source under a cut that leaves these tops.
+    // The rank of a source under a cut that leaves these tops.
     fn rank_after(&self, cut: &Cut, tops: &[Option<u32>], entry: &SourceRank) -> Option<u32>
         requires nodes { AreNodes self.now.paths.left tops.now }
         requires paths { ArePaths self.now.paths.case.now.graph self.now.paths.left self.now.paths.lists.items }
@@ -46,7 +49,7 @@ impl Base<'_> {
         }
     }
 
-    /// The sources whose rank is another under a cut that leaves these tops.
+    // The sources whose rank is another under a cut that leaves these tops.
     fn changes(
         &self,
         alloc: Global,
@@ -71,7 +74,7 @@ impl Base<'_> {
         Ok(changed)
     }
 
-    /// The sources to which a cut leaves another rank.
+    // The sources to which a cut leaves another rank.
     fn changed_by(&self, alloc: Global, cut: &Cut) -> Result<List<SourceRank>, AllocError>
         requires { ArePaths self.now.paths.case.now.graph self.now.paths.left self.now.paths.lists.items }
         ensures { IfOk result (IsChange self.now.net.now self.now.paths.case.now self.now.paths.left self.now.ranks cut.now) }

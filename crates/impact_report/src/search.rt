@@ -13,7 +13,7 @@ use impact_law::Cut;
 use net_base::Loc;
 use std::alloc::{AllocError, Global};
 
-/// A search that has come some way: the nodes that are marked, and those of them whose steps it has not followed yet.
+// A search that has come some way: the nodes that are marked, and those of them whose steps it has not followed yet.
 #[derive(Drop)]
 struct Search {
     marks: Vec<bool>,
@@ -23,7 +23,7 @@ struct Search {
 impl Search {
     ghost use Rattle.impact_report.specs.Searching.{Visits};
 
-    /// A search among so many nodes that has come to none.
+    // A search among so many nodes that has come to none.
     fn new(alloc: Global, size: usize) -> Result<Search, AllocError>
         ensures marks { IfOk result (λ s. s.marks.items ≡ replicate size false) }
         ensures waiting { IfOk result (λ s. s.waiting.items ≡ []) }
@@ -34,7 +34,7 @@ impl Search {
         })
     }
 
-    /// Comes to a node where the way to it is open.
+    // Comes to a node where the way to it is open.
     fn visit(&mut self, node: u32, is_open: bool) -> Result<(), AllocError>
         requires { node < vec_len self.old.marks }
         ensures { OnOk result (Visits (λ n. is_open && node == n) self.old self.new) }
@@ -46,7 +46,7 @@ impl Search {
         Ok(())
     }
 
-    /// Comes to the starts of a graph that a cut spares.
+    // Comes to the starts of a graph that a cut spares.
     fn begin(&mut self, graph: &Graph, cut: &Cut) -> Result<(), AllocError>
         requires { vec_len self.old.marks ≡ length graph.now.nodes }
         ensures { OnOk result (Visits (λ n. is_among graph.now.starts n && not (is_dead (with_cut cut.now no_failures) (place_of graph.now n))) self.old self.new) }
@@ -58,7 +58,7 @@ impl Search {
         Ok(())
     }
 
-    /// Follows the steps from a location to some nodes where a cut spares them.
+    // Follows the steps from a location to some nodes where a cut spares them.
     fn follow(
         &mut self,
         graph: &Graph,

@@ -11,7 +11,9 @@ use std::alloc::{AllocError, Global};
 /// A claimed router, or its session to a peer.
 #[derive(Clone, Copy, Debug, PartialEq, Eq)]
 pub struct Source {
+    /// The router.
     pub router: Loc,
+    /// The peer of the session, or None where the router itself is the source.
     pub peer: Option<Loc>,
 }
 

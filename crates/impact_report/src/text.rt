@@ -11,7 +11,7 @@ use net_base::{Net, Prefix};
 use outcome_report::push_head;
 use std::alloc::Global;
 
-/// The prefix and its class, and a line for each claimed source.
+// The prefix and its class, and a line for each claimed source.
 fn base_text(
     alloc: Global,
     net: &Net,

@@ -2,7 +2,7 @@
 ghost use Rattle.std.specs.Prelude.{◌≡◌, ◌≤◌};
 ghost use Rattle.input_output.specs.Outside.{next};
 
-// The count, raised by one, which stays at the last value once it is there.
+/// The count, raised by one, which stays at the last value once it is there.
 pub(crate) fn raised(count: u64) -> u64
     ensures next { result ≡ next count }
     ensures no_less { count ≤ result }

@@ -23,6 +23,7 @@ impl Model for Calls {
 }
 
 impl Calls {
+    /// Calls of which none was made, and none is to fail.
     pub(crate) fn new(alloc: Global) -> Calls
         ensures { result ≡ fresh }
     {
@@ -32,7 +33,7 @@ impl Calls {
         }
     }
 
-    // Counts one more call, and says whether it is to fail.
+    /// Counts one more call, and says whether it is to fail.
     pub(crate) fn next_fails(&mut self) -> bool
         ensures made { self.new ≡ after_call self.old }
         ensures fails { IsTrue result ↔ NextFails self.old }
@@ -41,7 +42,7 @@ impl Calls {
         self.failing.contains(&self.made)
     }
 
-    // The call of this number is to fail too.
+    /// The call of this number is to fail too.
     pub(crate) fn fail(&mut self, call: u64) -> Result<(), NoMemory>
         ensures listed { OnOk result (self.new ≡ with_failing self.old call) }
         ensures err { OnErr result (self.new ≡ self.old) }

@@ -67,7 +67,7 @@ pub trait Inputs {
         ensures sure { (n : List ℕ) → sure self.old n → (faults self.new n ≡ faults self.old n) × sure self.new n };
 }
 
-// A copy of the bytes of a name, where there are at most `most`.
+/// A copy of the bytes of a name, where there are at most `most`.
 pub(crate) fn copied(alloc: Global, bytes: &[u8], most: u64) -> Result<Vec<u8>, InputFail>
     ensures bytes { IfOk result (λ v. v.items ≡ bytes.now) }
     ensures within { IfOk result (λ v. length v.items ≤ most) }

@@ -1,5 +1,6 @@
-//! The commands that judge, or write anew, what they are given: bytes in, a verdict or a text out. None of them needs the compiler but
-//! `routemap`.
+//! The jobs that judge what is given, or write it anew: evidence (`check`), recorded tables (`audit`), a policy's parts
+//! (`lint`), a configuration of the first edition (`migrate`), route maps (`routemap`, `maps`, `checkmap`); and the lines of
+//! their verdicts.
 //!
 //! | Command | Judges | By |
 //! |---|---|---|
@@ -9,7 +10,17 @@
 //! | `migrate` | nothing: a configuration of the first edition, written in the second | `config_reader`, `config_text` |
 //! | `routemap`, `maps`, `checkmap` | whether maps are those of a configuration, and those maps | `map_maker`, `route_map_text`, `map_reader` |
 //!
-//! The lines of verdicts stand here, since no other crate writes them. Words of a command line, names of files and sinks are unknown here.
+//! The lines of verdicts stand here, since no other crate writes them. Bytes go in, and a verdict or a text comes out; of all these commands
+//! only `routemap` needs the compiler.
+//!
+//! A verdict goes to the output whether it holds or fails: it is what was asked for, and no error of the run. Which line a
+//! rule that fails gives is said by the verdict itself, with its place, so a run has only to say the status.
+//!
+//! Mostly a configuration is the one that is made of its evidence. So `check` judges the evidence first, and compares texts.
+//! It reads the configuration only where these differ, or where the evidence fails. All the same, a fault of its text is told
+//! before a rule that fails, since all texts are judged before what they say.
+//!
+//! It knows nothing of words, names or sinks.
 #![tactic(auto)]
 
 mod audit;

@@ -21,6 +21,7 @@ fn push_prefix(bounds: &mut Vec<u64>, prefix: Prefix) -> Result<(), NoMemory>
     Ok(())
 }
 
+// The bounds of the bases of patterns.
 fn push_patterns(bounds: &mut Vec<u64>, patterns: &[Pattern]) -> Result<(), NoMemory>
     ensures { OnOk result ((x : ℕ) → has bounds.new.items x ≡ (has bounds.old.items x || bounds_pattern patterns.now x)) }
 {
@@ -30,6 +31,7 @@ fn push_patterns(bounds: &mut Vec<u64>, patterns: &[Pattern]) -> Result<(), NoMe
     Ok(())
 }
 
+// The bounds of originated prefixes.
 fn push_origins(bounds: &mut Vec<u64>, origins: &[Origin]) -> Result<(), NoMemory>
     ensures { OnOk result ((x : ℕ) → has bounds.new.items x ≡ (has bounds.old.items x || bounds_origin origins.now x)) }
 {
@@ -39,6 +41,7 @@ fn push_origins(bounds: &mut Vec<u64>, origins: &[Origin]) -> Result<(), NoMemor
     Ok(())
 }
 
+// The bounds of the patterns of statements.
 fn push_statements(bounds: &mut Vec<u64>, statements: &[Statement]) -> Result<(), NoMemory>
     ensures { OnOk result ((x : ℕ) → has bounds.new.items x ≡ (has bounds.old.items x || list_any (λ s. bounds_pattern s.patterns x) statements.now)) }
 {

@@ -1,4 +1,5 @@
-//! The least prefix of each pair of first patterns that two policies have for some prefix.
+//! The least prefix of each pair of first patterns that two policies have for some prefix, found at the addresses at which
+//! these can change.
 //!
 //! Two policies divide the prefixes into classes: those with the same first pattern in the old policy and the same in the new one, which
 //! neither originates (`specs/Classes`). Of each class that has a prefix at all the least one is found, by address and then by length.
@@ -10,7 +11,9 @@
 //! twice as many addresses as there are patterns and originated prefixes. The addresses are taken in order, so the first prefix of a class
 //! that is met is the least (`search`).
 //!
-//! Nothing here knows networks or what statements say of paths.
+//! Compiling doesn't need it.
+//!
+//! It knows nothing of networks, or of what statements say of paths.
 #![tactic(auto)]
 
 mod asked;

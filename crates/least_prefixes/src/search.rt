@@ -15,7 +15,7 @@ use net_base::Prefix;
 use policy_base::Policy;
 use std::alloc::Global;
 
-/// As many as there are addresses.
+// As many as there are addresses.
 const ADDRESSES: u64 = 4_294_967_296;
 
 // Puts a prefix to the others where its class is new.

@@ -5,7 +5,7 @@ ghost use Rattle.lint_cover.specs.Covered.{IsCovered, covered, covered_below, de
 
 use net_base::{Pattern, Prefix};
 
-/// Whether the prefix is inside the base of the pattern.
+// Whether the prefix is inside the base of the pattern.
 fn is_around(pattern: Pattern, prefix: Prefix) -> bool
     ensures { result ≡ is_inside pattern.base prefix }
 {
@@ -14,7 +14,7 @@ fn is_around(pattern: Pattern, prefix: Prefix) -> bool
     base.len() <= prefix.len() && u64::from(prefix.bits()) >> cut == u64::from(base.bits()) >> cut
 }
 
-/// One more than the length to which the pattern contains the prefixes inside this one.
+// One more than the length to which the pattern contains the prefixes inside this one.
 fn depth_in(pattern: Pattern, prefix: Prefix) -> u8
     ensures { result ≡ (if is_inside pattern.base prefix then suc pattern.upto else 0) }
 {
@@ -25,7 +25,7 @@ fn depth_in(pattern: Pattern, prefix: Prefix) -> u8
     }
 }
 
-/// Prefixes inside this one that are of a length below this are in the patterns whose base is around it.
+// Prefixes inside this one that are of a length below this are in the patterns whose base is around it.
 fn depth(patterns: &[Pattern], prefix: Prefix) -> u8
     ensures { result ≡ depth_at patterns.now prefix }
 {
@@ -53,7 +53,7 @@ pub(crate) fn high(prefix: Prefix) -> Prefix
     Prefix::new(prefix.bits() + (1 << (31 - len)), len + 1)
 }
 
-/// Whether the prefixes inside this one that are at most `more` longer are in the patterns.
+// Whether the prefixes inside this one that are at most `more` longer are in the patterns.
 fn is_covered_below(patterns: &[Pattern], prefix: Prefix, more: u8) -> bool
     requires { prefix.len + more ≤ 32 }
     ensures { result ≡ covered_below patterns.now prefix more }

@@ -19,7 +19,7 @@ pub struct PatternTable {
     ends: IndexMap<Prefix, u8>,
 }
 
-/// The first bits of a prefix, as many as `len`.
+// The first bits of a prefix, as many as `len`.
 fn cut(prefix: Prefix, len: u8) -> Prefix
     requires { len ≤ 32 }
     ensures { result ≡ cut_at prefix len }
@@ -29,7 +29,7 @@ fn cut(prefix: Prefix, len: u8) -> Prefix
     Prefix::new(bits as u32, len)
 }
 
-/// What every pattern keeps.
+// What every pattern keeps.
 fn known_pattern(pattern: Pattern)
     ensures { IsPattern pattern }
 {
@@ -47,14 +47,14 @@ impl PatternTable {
         }
     }
 
-    /// One more than the greatest length that a pattern with this very base contains; 0 where there is none.
+    // One more than the greatest length that a pattern with this very base contains; 0 where there is none.
     fn end_at(&self, base: Prefix) -> u8
         ensures { result ≡ unwrap_or (get same_prefix self.now.ends base) 0 }
     {
         self.ends.get(&base).copied().unwrap_or(0)
     }
 
-    /// The same of the patterns whose base is around the prefix.
+    // The same of the patterns whose base is around the prefix.
     fn end_around(&self, prefix: Prefix) -> u8
         ensures { (qs : Items PlainPattern) → Holds self.now qs → result ≡ depth_at qs prefix }
     {
@@ -65,8 +65,8 @@ impl PatternTable {
         most
     }
 
-    /// Whether the prefixes inside this one that are at most `more` longer are in the patterns, where `around` is one more than
-    /// the greatest length that a pattern whose base is around it contains.
+    // Whether the prefixes inside this one that are at most `more` longer are in the patterns, where `around` is one more than
+    // the greatest length that a pattern whose base is around it contains.
     fn covers_below(&self, prefix: Prefix, more: u8, around: u8) -> bool
         requires { prefix.len + more ≤ 32 }
         ensures { (qs : Items PlainPattern) → Holds self.now qs → around ≡ depth_at qs prefix → result ≡ covered_below qs prefix more }
@@ -102,7 +102,7 @@ impl PatternTable {
         Ok(())
     }
 
-    /// Whether the pattern is covered too, where those before it are.
+    // Whether the pattern is covered too, where those before it are.
     fn covers_too(&self, are_covered: bool, pattern: Pattern) -> bool
         ensures { (qs ps all : Items PlainPattern) → all ≡ qs ++ ps → Holds self.now all → (IsTrue are_covered ↔ AreCovered qs ps)
             → IsTrue result ↔ AreCovered qs (ps ++ pattern ∷ []) }

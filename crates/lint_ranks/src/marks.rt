@@ -8,7 +8,7 @@ ghost use Rattle.lint_ranks.specs.Marks.{is_rank, some_has_rank};
 use bit_rows::Rows;
 use graph_base::Node;
 
-/// Sets the bit of a rank, where there is one.
+// Sets the bit of a rank, where there is one.
 fn mark(marks: &mut Rows, row: u32, rank: Option<u32>)
     requires row { row < marks.old.count }
     requires rank { IfSome rank (λ k. k < marks.old.bits) }

@@ -19,7 +19,7 @@ use policy_base::limits::ALTERNATIVES;
 use policy_base::{CaseList, Policy};
 use std::alloc::Global;
 
-/// The graph of a case, or which limit the case passes.
+// The graph of a case, or which limit the case passes.
 fn case_within(
     alloc: Global,
     net: &Net,

@@ -12,7 +12,9 @@ use std::alloc::{AllocError, Global};
 /// A pattern's key, and the place of the pattern among all.
 #[derive(Clone, Copy, Debug, PartialEq, Eq)]
 pub struct Entry {
+    /// The key of the pattern, by which a block is in order.
     pub key: u64,
+    /// The place of the pattern among all, from 0.
     pub place: usize,
 }
 

@@ -21,7 +21,9 @@ pub const MAX_LINES: u64 = 1_000_000;
 /// The patterns of earlier classes, in their order and in blocks by their keys.
 #[derive(Drop)]
 pub struct Earlier {
+    /// The patterns, in order of their classes.
     pub patterns: List<Pattern>,
+    /// The same patterns in blocks, each in order of its keys.
     pub blocks: List<List<Entry>>,
 }
 
@@ -128,8 +130,9 @@ fn push_list(
 /// Lists, and how many lines a text with them has.
 #[derive(Drop)]
 pub struct Listed {
+    /// The list of each class, of use only where there aren't too many lines.
     pub lists: List<List<ListLine>>,
-    /// At most 18446744073709551615.
+    /// How many lines a text with them has, at most 18446744073709551615.
     pub total: u64,
 }
 

@@ -10,16 +10,18 @@ ghost use Rattle.map_maker.specs.Keys.{key as key_of, above as above_by, inside 
 use net_base::{List, Pattern};
 use std::alloc::{AllocError, Global};
 
-/// As many as there are addresses.
+// As many as there are addresses.
 const ADDRESSES: u64 = 4_294_967_296;
 
-/// More than there are lengths of prefixes.
+// More than there are lengths of prefixes.
 const LENGTHS: u64 = 64;
 
 /// The keys from one on and before another.
 #[derive(Clone, Copy, Debug, PartialEq, Eq)]
 pub struct Span {
+    /// The least key of the span.
     pub from: u64,
+    /// The key behind the span.
     pub to: u64,
 }
 

@@ -15,6 +15,7 @@ use std::alloc::{AllocError, Global};
 /// What was read so far.
 #[derive(Drop)]
 pub struct MapsReading {
+    /// The lines of each list.
     pub lists: List<List<ListLine>>,
     /// The routers, as a configuration is read. It has one class for each list, with the pattern of the list's first
     /// line, so that lists come in the order of classes and entries name them as they name classes.

@@ -1,4 +1,5 @@
-//! Networks in motion come to rest, however ties are broken: a law without code.
+//! The law that a network in motion comes to rest where the evidence passes, however ties are broken: what its routers hold
+//! over time is, in the graph, a history as `steady_law` asks for it. There is no code.
 //!
 //! The machine is that of `motion_law`: to hear, to choose and to send are moves of their own, peers may say any path, and the ends of a
 //! session notice at different times that it is gone. `specs/Rest` says what rest is there, and how many rounds lead to it.
@@ -16,6 +17,14 @@
 //!
 //! Where a prefix has no class nobody takes anything, and one round is enough. That there is one end only where ties go by the lowest
 //! identifier isn't said here: `steady_law` says it of abstract outcomes.
+//!
+//! Rest is said of schedules: a schedule says what happens at each time, if anything. So a round is a stretch of time, and no
+//! list has to be cut in pieces. A round sends before it hears: otherwise its first hearings could bring what was sent before
+//! it began.
+//!
+//! Compiling doesn't need it.
+//!
+//! It knows nothing of the compiler or of texts.
 #![tactic(auto)]
 
 ghost use Rattle.motion_rest.specs.Rest.{PassingEvidenceRests};

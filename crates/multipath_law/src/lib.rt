@@ -1,18 +1,32 @@
-//! Packets that are spread over equal routes: laws, and the value that lists where they go.
+//! Where packets go in a stable outcome if routers spread them over routes that tie with their own, and the laws of that: they arrive, by
+//! right ways, also where more fails and where peers announce what they like. The value that lists multipath sets and idle links, and no
+//! other code.
 //!
-//! A neighbour is in a router's multipath set where the route that it gives ties with the router's own in preference and in the number of AS
-//! numbers (`specs/Multipath`). Each router still holds and announces one route. The laws say three things of packets that go to any
-//! neighbours of the sets:
+//! A neighbour is in a router's multipath set where the route that it gives ties with the router's own in preference and in the number of
+//! AS numbers (`specs/Multipath`). The laws say three things of packets that go to any neighbours of the sets:
 //!
 //! - They arrive, whatever the configuration is: the number of AS numbers on the route falls by one at each hop (`proofs/Lengths`, over
 //!   `proofs/Ways`, which knows no network).
-//! - They go right ways where the evidence passes. A way over routes that tie in preference has a run in the graph of the case, to a node with
-//!   the number of the router's route (`proofs/Ranked`, `proofs/Right`). Lengths aren't needed for that; they keep packets from circling.
+//! - They go right ways where the evidence passes. A way over routes that tie in preference has a run in the graph of the case, to a node
+//!   with the number of the router's route (`proofs/Ranked`, `proofs/Right`): at least that number by the step rule, and at most, since the
+//!   way survives.
 //! - They go right ways while routers only leave out neighbours to which their link is down (`proofs/Repaired`).
 //!
-//! So a tie is measured against the route that the router holds, whichever of those that tie it is. No law asks how ties are broken. Where peers announce
-//! what they like, whole AS paths are compared (`specs/Announced`). Nothing here knows events: while messages wait nothing is said of
-//! packets.
+//! Lengths count for one thing alone: without them packets can go in a circle. Two routers and a peer that originates, each linked with the
+//! others, are enough: with routes that tie in preference alone a packet may go from one router to the other and back.
+//!
+//! A tie is measured against the route that the router holds, and not against the fewest AS numbers that are given. So the laws hold of
+//! every stable outcome, whichever of several routes a router has chosen, and none asks how ties are broken. A router may use any part of
+//! its set, and another one for each packet. So a limit on the number of paths, weights and hashing need no law of their own, and routers
+//! that spread can stand between routers that don't.
+//!
+//! Each router still holds and announces its one route with its one tag. Announcements that are made of all members, as with AS sets,
+//! aren't modelled: a route could then have several tags. Where peers announce what they like, whole AS paths are compared
+//! (`specs/Announced`). While messages wait nothing is said of packets.
+//!
+//! Compiling doesn't need it.
+//!
+//! It knows nothing of the compiler, of how multipath sets are found, and of events.
 #![tactic(auto)]
 
 mod multipath;

@@ -27,7 +27,7 @@ pub(crate) fn live_links(
     Ok(links)
 }
 
-/// Whether the first end of a link, a router, offers the second, a peer, a path.
+// Whether the first end of a link, a router, offers the second, a peer, a path.
 fn is_offer(situation: &Situation<'_>, link: (Loc, Loc)) -> bool
     requires { IsSituation situation.now }
     ensures { result ≡ offered_over situation.now link }
@@ -35,7 +35,7 @@ fn is_offer(situation: &Situation<'_>, link: (Loc, Loc)) -> bool
     situation.offered(link.0, link.1).is_some()
 }
 
-/// Whether packets go over a link: one end is in the multipath set of the other, or the second end, a peer, is offered a path.
+// Whether packets go over a link: one end is in the multipath set of the other, or the second end, a peer, is offered a path.
 fn is_used(situation: &Situation<'_>, sets: &[LocSet], link: (Loc, Loc)) -> bool
     requires { IsSituation situation.now }
     ensures { result ≡ is_used_in situation.now sets.now link }

@@ -18,7 +18,7 @@ use scenarios::Situation;
 use std::alloc::{AllocError, Global};
 use text_parts::{push_bytes, push_number};
 
-/// Adds where a router sends packets that holds a route of this path.
+// Adds where a router sends packets that holds a route of this path.
 fn push_sends(
     text: &mut Vec<u8>,
     told: &Told<'_, '_>,
@@ -35,14 +35,14 @@ fn push_sends(
     push_set(text, net, told.sets, at)
 }
 
-/// The path of the route that a router holds.
+// The path of the route that a router holds.
 fn path_at<'a>(situation: &'a Situation<'_>, at: Loc) -> Option<&'a [Loc]>
     ensures { option_map (λ path. path.now) result ≡ (shown_in situation.now).path at }
 {
     Some(situation.outcome.route_at(at)?.path.as_slice())
 }
 
-/// Adds what a router has: that it is dead, an origin, without a route, or where it sends packets.
+// Adds what a router has: that it is dead, an origin, without a route, or where it sends packets.
 fn push_state(text: &mut Vec<u8>, told: &Told<'_, '_>, at: Loc) -> Result<(), NoMemory>
     requires { IsTold told.now }
     ensures { OnOk result
@@ -64,7 +64,7 @@ fn push_state(text: &mut Vec<u8>, told: &Told<'_, '_>, at: Loc) -> Result<(), No
     }
 }
 
-/// Adds the line of a router.
+// Adds the line of a router.
 #[tactic(auto, unfolding(crate::specs::Texts::router_line))]
 fn push_router(text: &mut Vec<u8>, told: &Told<'_, '_>, at: Loc) -> Result<(), NoMemory>
     requires { IsTold told.now }
@@ -87,7 +87,7 @@ pub(crate) fn push_routers(text: &mut Vec<u8>, told: &Told<'_, '_>) -> Result<()
     Ok(())
 }
 
-/// The path that a peer is offered over the session of a router, if it is offered one. It begins with the peer.
+// The path that a peer is offered over the session of a router, if it is offered one. It begins with the peer.
 fn offer(
     alloc: Global,
     told: &Told<'_, '_>,
@@ -103,7 +103,7 @@ fn offer(
     }
 }
 
-/// Adds the rank and the hops of a path that a peer is offered.
+// Adds the rank and the hops of a path that a peer is offered.
 fn push_ranked(text: &mut Vec<u8>, told: &Told<'_, '_>, path: &[Loc]) -> Result<(), NoMemory>
     requires { IsTold told.now }
     ensures { OnOk result (text.new.items ≡ text.old.items ++ offer_text (net_in told.now) (statement_for told.now) (Some path.now)) }
@@ -117,7 +117,7 @@ fn push_ranked(text: &mut Vec<u8>, told: &Told<'_, '_>, path: &[Loc]) -> Result<
     }
 }
 
-/// Adds what a peer is offered.
+// Adds what a peer is offered.
 fn push_offer(
     text: &mut Vec<u8>,
     told: &Told<'_, '_>,
@@ -132,7 +132,7 @@ fn push_offer(
     }
 }
 
-/// Adds the line of a session of a router and a peer.
+// Adds the line of a session of a router and a peer.
 #[tactic(auto, unfolding(crate::specs::Texts::session_line))]
 fn push_session(
     alloc: Global,
@@ -165,7 +165,7 @@ pub(crate) fn push_sessions(
     Ok(())
 }
 
-/// Adds the line of an idle link.
+// Adds the line of an idle link.
 #[tactic(auto, unfolding(crate::specs::Texts::idle_line))]
 fn push_idle_link(text: &mut Vec<u8>, net: &Net, link: (Loc, Loc)) -> Result<(), NoMemory>
     ensures { OnOk result (text.new.items ≡ text.old.items ++ idle_line net.now link) }

@@ -12,7 +12,7 @@ use net_base::{Loc, LocSet};
 use scenarios::{Imported, Situation};
 use std::alloc::{AllocError, Global};
 
-/// Whether what a location is given ties with the route that it holds, in preference and in the number of AS numbers.
+// Whether what a location is given ties with the route that it holds, in preference and in the number of AS numbers.
 fn is_tie(imported: &Imported<'_>, at: Loc, held: &Route) -> bool
     ensures { result ≡ ties (route_of at imported.now) held.now }
 {
@@ -34,7 +34,7 @@ pub fn is_member(situation: &Situation<'_>, at: Loc, next: Loc) -> bool
     }
 }
 
-/// Puts a neighbour into the set of a location.
+// Puts a neighbour into the set of a location.
 fn put(sets: &mut [LocSet], at: Loc, next: Loc)
     requires at { at < length sets.old }
     requires next { next < LOCATIONS }
@@ -44,7 +44,7 @@ fn put(sets: &mut [LocSet], at: Loc, next: Loc)
     sets[at.number() as usize].insert(next);
 }
 
-/// Puts a neighbour into the set of a location, where it belongs to it.
+// Puts a neighbour into the set of a location, where it belongs to it.
 fn put_member(sets: &mut [LocSet], situation: &Situation<'_>, at: Loc, next: Loc)
     requires situation { IsSituation situation.now }
     requires at { at < length sets.old }

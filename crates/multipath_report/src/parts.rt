@@ -12,7 +12,7 @@ use net_base::{Loc, LocSet, Net};
 use outcome_report::push_next;
 use text_parts::{push_bytes, push_number};
 
-/// How many hops a path has, one fewer than places.
+// How many hops a path has, one fewer than places.
 fn hops(path: &[Loc]) -> usize
     ensures { result ≡ length path.now - 1 }
 {
@@ -40,7 +40,7 @@ pub(crate) fn push_rank(text: &mut Vec<u8>, rank: Option<u32>) -> Result<(), NoM
     }
 }
 
-/// Adds the name of a location, where it is in the set of another.
+// Adds the name of a location, where it is in the set of another.
 fn push_member(
     text: &mut Vec<u8>,
     net: &Net,
@@ -57,7 +57,7 @@ fn push_member(
     }
 }
 
-/// Adds the names of the locations in the set of a location, in order.
+// Adds the names of the locations in the set of a location, in order.
 fn push_members(text: &mut Vec<u8>, net: &Net, sets: &[LocSet], at: Loc) -> Result<(), NoMemory>
     ensures { OnOk result (text.new.items ≡ text.old.items ++ flat_map (next_name net.now) (filter (is_held sets.now at) (in_order net.now))) }
 {

@@ -1,4 +1,6 @@
-//! Networks in motion whose ties go to the lowest identifier come to rest in one outcome: laws without code.
+//! Networks in motion whose ties go to the lowest identifier: they rest in the one outcome that is stable with ties broken by
+//! whole length and identifier, whatever peers say; every world is one of some scenario and has such an outcome, and
+//! schedules that forget nobody exist. There is no code.
 //!
 //! `motion_rest` says that routers which hear, choose and send when they like come to rest, however ties are broken. Which stable outcome is
 //! left then depends on the schedule. Here ties go to the neighbour with the lowest identifier (`specs/Named`), and the full order is by
@@ -12,6 +14,16 @@
 //! - `proofs/Ending`: what a network rests in is fully stable.
 //! - `proofs/Scenarios`: every world is one of some scenario, and from each there is a schedule that forgets nobody. `proofs/Reached`: so
 //!   each scenario has an outcome, in which a network rests to which nothing has happened but what fails and what peers say.
+//!
+//! Ties by identifier are said of what a router takes, and not of what it names. In motion a router that has heard nothing
+//! new keeps its route, even where a neighbour with a lower identifier gives one that ties. So to name the lowest isn't to
+//! hold its route: a router may hold on to one that it took by another rule. `TakesLowest` speaks of the route after each
+//! choice, from some time on, and asks nothing of what was before. That a router takes the lowest where it has named it from
+//! the start on is a law (`named_choices_take_lowest`).
+//!
+//! Compiling doesn't need it.
+//!
+//! It knows nothing of the compiler or of texts.
 #![tactic(auto)]
 
 ghost use Rattle.named_rest.specs.Named.{FullyStableUnderAreOne, NamedChoicesTakeLowest, TiesByNameHaveOneEnd};

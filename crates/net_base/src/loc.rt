@@ -39,6 +39,7 @@ impl Loc {
 /// A set of locations below 768, one bit each.
 #[derive(Clone, Copy, Debug, PartialEq, Eq, PartialOrd, Ord, Hash)]
 pub struct LocSet {
+    /// The bit of location `l` is bit `l % 64` of word `l / 64`.
     pub words: [u64; 12],
 }
 
@@ -136,6 +137,7 @@ impl LocSet {
     }
 }
 
+// Whether a number is from `from` on and below `to`.
 fn is_between(from: u16, to: u16, at: u16) -> bool
     ensures { result ≡ (nat_le from at && nat_lt at to) }
 {

@@ -42,18 +42,21 @@ impl Model for Name {
     } };
 }
 
+// Whether the byte is an ASCII letter.
 fn is_letter(b: u8) -> bool
     ensures { result ≡ letter b }
 {
     b.is_ascii_alphabetic()
 }
 
+// Whether the byte may stand in a name behind its first one.
 fn is_name_byte(b: u8) -> bool
     ensures { result ≡ name_byte b }
 {
     matches!(b, b'a'..=b'z' | b'A'..=b'Z' | b'0'..=b'9' | b'_' | b'-' | b'.')
 }
 
+// Whether each byte may stand in a name behind its first one.
 fn are_name_bytes(bytes: &[u8]) -> bool
     ensures { result ≡ list_all name_byte bytes.now }
 {
@@ -122,6 +125,7 @@ fn is_reserved(bytes: &[u8]) -> bool
     is_item_word(bytes) || is_operator(bytes) || is_path_call(bytes) || is_place_call(bytes)
 }
 
+// Whether the bytes are a name by the rule of names: short enough, a letter first, and no word of the policy language.
 #[tactic(auto, unfolding(crate::specs::NameRule::is_name))]
 fn spells_name(bytes: &[u8]) -> bool
     ensures rule { result ≡ is_name bytes.now }

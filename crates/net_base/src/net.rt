@@ -13,8 +13,11 @@ use std::marker::Model;
 /// (RFC 4271, 4.2).
 #[derive(Clone, Copy)]
 pub struct Site {
+    /// Its name, which no other location of the network has.
     pub name: Name,
+    /// Its AS number: a private one for a router (RFC 6996), a public or private one for a peer (RFC 6793).
     pub asn: u32,
+    /// Its BGP identifier (RFC 4271, 4.2; RFC 6286), from 1 to 4294967295: an IPv4 address with its first byte highest.
     pub id: u32,
 }
 

@@ -6,7 +6,9 @@ ghost use Rattle.net_base.specs.Numbers.{is_router_as, is_peer_as, is_tag};
 /// Where both are 0 it stands for no tag.
 #[derive(Clone, Copy, Debug, PartialEq, Eq, PartialOrd, Ord, Hash)]
 pub struct Tag {
+    /// The AS number of the router that owns the tag, or 0 for no tag.
     pub asn: u32,
+    /// The number of the tag among those of its router, or 0 for no tag.
     pub value: u32,
 }
 

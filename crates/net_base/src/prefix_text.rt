@@ -47,6 +47,7 @@ fn halves(sign: u8, bytes: &[u8]) -> Option<(&[u8], &[u8])>
     Some((&bytes[..i], &bytes[i + 1..]))
 }
 
+// The value of a decimal digit.
 fn figure(byte: u8) -> Option<u16>
     ensures { result ≡ small_number (byte ∷ []) }
 {

@@ -10,7 +10,7 @@ use crate::runs::{run_of, run_starts};
 use crate::way::{Way, place_apart};
 use std::alloc::{AllocError, Global};
 
-/// Lets the pairs of targets wait, of ways to the same places.
+// Lets the pairs of targets wait, of ways to the same places.
 fn add_targets(todo: &mut Vec<(u32, u32)>, one: &[Way], other: &[Way]) -> Result<(), AllocError>
     requires { length one.now ≡ length other.now }
     ensures { OnOk result (todo.new.items ≡ todo.old.items ++ targets one.now other.now) }
@@ -21,7 +21,7 @@ fn add_targets(todo: &mut Vec<(u32, u32)>, one: &[Way], other: &[Way]) -> Result
     Ok(())
 }
 
-/// Joins two nodes and lets the targets of their ways wait; or gives false where they don't step alike.
+// Joins two nodes and lets the targets of their ways wait; or gives false where they don't step alike.
 fn meet(
     up: &mut Vec<u32>,
     todo: &mut Vec<(u32, u32)>,

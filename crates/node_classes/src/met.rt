@@ -9,7 +9,7 @@ use crate::way::{Way, ways_of};
 use indexmap::IndexSet;
 use std::alloc::{AllocError, Global};
 
-/// Puts the pairs of targets, of ways to the same places, behind those that were found.
+// Puts the pairs of targets, of ways to the same places, behind those that were found.
 fn add_pairs(found: &mut IndexSet<(u32, u32)>, one: &[Way], other: &[Way]) -> Result<(), AllocError>
     requires { length one.now ≡ length other.now }
     ensures { OnOk result (found.new.keys ≡ with_pairs found.old.keys (targets one.now other.now)) }

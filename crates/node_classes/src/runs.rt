@@ -5,7 +5,7 @@ ghost use Rattle.node_classes.specs.Ways.{AreRunStarts, Ascend, BeginsAt, comes_
 use crate::way::Way;
 use std::alloc::{AllocError, Global};
 
-/// Where the ways of a node end, which begin at a place.
+// Where the ways of a node end, which begin at a place.
 fn run_end(ways: &[Way], start: usize, node: u32) -> usize
     requires order { Ascend ways.now }
     requires start { BeginsAt ways.now node start }
@@ -37,7 +37,7 @@ pub(crate) fn run_starts(alloc: Global, count: u32, ways: &[Way]) -> Result<Vec<
     Ok(starts)
 }
 
-/// Where the ways of a node begin and end, by where those of each node begin.
+// Where the ways of a node begin and end, by where those of each node begin.
 fn ends_by(ways: &[Way], starts: &[usize], node: u32) -> (usize, usize)
     requires starts { AreRunStarts ways.now starts.now }
     requires node { node + 1 < length starts.now }

@@ -5,7 +5,7 @@ ghost use Rattle.node_quotient.specs.Alike.{AreInside, are_alike, are_in_step, h
 
 use bit_rows::NodeList;
 
-/// Whether a node of the list is of this class.
+// Whether a node of the list is of this class.
 fn has_class(list: &[u32], least: &[u32], class: u32) -> bool
     requires { All (λ n. n < length least.now) list.now }
     ensures { result ≡ is_class_in least.now list.now class }
@@ -18,7 +18,7 @@ fn has_class(list: &[u32], least: &[u32], class: u32) -> bool
     false
 }
 
-/// Whether some class of the one list isn't one of the other.
+// Whether some class of the one list isn't one of the other.
 fn lacks_class(list: &[u32], other: &[u32], least: &[u32]) -> bool
     requires list { All (λ n. n < length least.now) list.now }
     requires other { All (λ n. n < length least.now) other.now }
@@ -32,7 +32,7 @@ fn lacks_class(list: &[u32], other: &[u32], least: &[u32]) -> bool
     false
 }
 
-/// Whether the nodes of two lists are of the same classes one after another.
+// Whether the nodes of two lists are of the same classes one after another.
 fn is_in_step(list: &[u32], other: &[u32], least: &[u32]) -> bool
     requires list { All (λ n. n < length least.now) list.now }
     requires other { All (λ n. n < length least.now) other.now }
@@ -49,7 +49,7 @@ fn is_in_step(list: &[u32], other: &[u32], least: &[u32]) -> bool
     true
 }
 
-/// Whether the nodes of two lists are of the same classes. Where they are so one after another, that is seen at once.
+// Whether the nodes of two lists are of the same classes. Where they are so one after another, that is seen at once.
 fn is_same_classes(list: &[u32], other: &[u32], least: &[u32]) -> bool
     requires list { All (λ n. n < length least.now) list.now }
     requires other { All (λ n. n < length least.now) other.now }
@@ -59,7 +59,7 @@ fn is_same_classes(list: &[u32], other: &[u32], least: &[u32]) -> bool
         || (!lacks_class(list, other, least) && !lacks_class(other, list, least))
 }
 
-/// Whether two nodes are of one class and step to the same classes.
+// Whether two nodes are of one class and step to the same classes.
 fn is_alike(lists: &[NodeList], least: &[u32], m: u32, n: u32) -> bool
     requires size { length lists.now ≡ length least.now }
     requires lists { AreInside lists.now (length least.now) }

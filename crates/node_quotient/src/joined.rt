@@ -16,7 +16,7 @@ use input_output::NoMemory;
 use reach_prune::{Way, neighbours};
 use std::alloc::{AllocError, Global};
 
-/// For each node the least one that nothing tells apart from it, where `classes` are the first ones.
+// For each node the least one that nothing tells apart from it, where `classes` are the first ones.
 fn settled_classes(
     alloc: Global,
     graph: &Graph,

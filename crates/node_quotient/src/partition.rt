@@ -15,7 +15,7 @@ use bit_rows::NodeList;
 use graph_base::Graph;
 use std::alloc::{AllocError, Global};
 
-/// Nodes in classes that bear the numbers of their least nodes, and the classes by which others are still to be split.
+// Nodes in classes that bear the numbers of their least nodes, and the classes by which others are still to be split.
 #[derive(Drop)]
 struct Partition {
     classes: Vec<u32>,
@@ -26,7 +26,7 @@ struct Partition {
     met: Vec<u32>,
 }
 
-/// The nodes of the list that are marked, or those that aren't.
+// The nodes of the list that are marked, or those that aren't.
 fn chosen(alloc: Global, list: &[u32], marks: &[bool], marked: bool) -> Result<NodeList, AllocError>
     requires { All (λ n. n < length marks.now) list.now }
     ensures { IfOk result (λ chosen. chosen ≡ filter (has_mark marks.now marked) list.now) }
@@ -40,7 +40,7 @@ fn chosen(alloc: Global, list: &[u32], marks: &[bool], marked: bool) -> Result<N
     Ok(chosen)
 }
 
-/// Gives each of these places the same item.
+// Gives each of these places the same item.
 fn set_each<T: Copy + Drop>(items: &mut Vec<T>, places: &[u32], item: T)
     requires { All (λ n. n < length items.old.items) places.now }
     ensures size { length items.new.items ≡ length items.old.items }
@@ -51,7 +51,7 @@ fn set_each<T: Copy + Drop>(items: &mut Vec<T>, places: &[u32], item: T)
     }
 }
 
-/// The nodes that are listed for one of these.
+// The nodes that are listed for one of these.
 fn all_listed(alloc: Global, lists: &[NodeList], nodes: &[u32]) -> Result<Vec<u32>, AllocError>
     requires { All (λ n. n < length lists.now) nodes.now }
     ensures { IfOk result (λ all. (m : ℕ) → is_among all.items m ≡ is_hit lists.now nodes.now m) }
@@ -63,7 +63,7 @@ fn all_listed(alloc: Global, lists: &[NodeList], nodes: &[u32]) -> Result<Vec<u3
     Ok(all)
 }
 
-/// The classes, each by its least node.
+// The classes, each by its least node.
 fn names(alloc: Global, classes: &[u32]) -> Result<Vec<u32>, AllocError>
     requires { length classes.now ≤ MAX_NODES }
     ensures { IfOk result (λ names. AllByRecursion (λ n. n < length classes.now) names.items) }
@@ -81,7 +81,7 @@ impl Partition {
     ghost use Rattle.node_quotient.specs.Partitions.{IsPartition};
     ghost use Rattle.node_quotient.specs.Splits.{AreClear, AreNamed};
 
-    /// These classes, which all wait.
+    // These classes, which all wait.
     fn new(alloc: Global, classes: Vec<u32>) -> Result<Partition, AllocError>
         requires few { length classes.items ≤ MAX_NODES }
         requires named { AreNamed classes.items }
@@ -98,8 +98,8 @@ impl Partition {
         })
     }
 
-    /// Splits a class into its nodes that are marked and the others, where it has both. The part with the least node keeps
-    /// the number of the class. Where the class waits, both parts do, and else the smaller one.
+    // Splits a class into its nodes that are marked and the others, where it has both. The part with the least node keeps
+    // the number of the class. Where the class waits, both parts do, and else the smaller one.
     fn split(&mut self, alloc: Global, class: u32, marks: &[bool]) -> Result<(), AllocError>
         requires class { class < length marks.now }
         requires partition { IsPartition (length marks.now) self.old }
@@ -127,7 +127,7 @@ impl Partition {
         Ok(())
     }
 
-    /// Lets a class wait.
+    // Lets a class wait.
     fn wait(&mut self, class: u32) -> Result<(), AllocError>
         requires class { class < length self.old.waits.items }
         requires partition { IsPartition (length self.old.waits.items) self.old }
@@ -139,7 +139,7 @@ impl Partition {
         Ok(())
     }
 
-    /// Splits the class of a node, where it wasn't looked at in this turn.
+    // Splits the class of a node, where it wasn't looked at in this turn.
     fn split_class_of(
         &mut self,
         alloc: Global,
@@ -160,8 +160,8 @@ impl Partition {
         self.split(alloc, class, marks)
     }
 
-    /// Splits each class into the nodes with a step to this class and the others; `before` has the nodes that step to each.
-    /// No mark is set before this turn and after it.
+    // Splits each class into the nodes with a step to this class and the others; `before` has the nodes that step to each.
+    // No mark is set before this turn and after it.
     fn split_by(
         &mut self,
         alloc: Global,

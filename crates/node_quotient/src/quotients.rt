@@ -14,7 +14,7 @@ use net_base::List;
 use reach_prune::kept;
 use std::alloc::{AllocError, Global};
 
-/// Marks the nodes that are the least of their classes.
+// Marks the nodes that are the least of their classes.
 fn are_least(alloc: Global, least: &[u32]) -> Result<Vec<bool>, AllocError>
     ensures size { IfOk result (λ marks. length marks.items ≡ length least.now) }
     ensures marks { IfOk result (λ marks. (n : ℕ) → n < length least.now → is_marked marks.items n ≡ (class_in least.now n == n)) }
@@ -26,7 +26,7 @@ fn are_least(alloc: Global, least: &[u32]) -> Result<Vec<bool>, AllocError>
     Ok(marks)
 }
 
-/// The steps, each led to the least node of its target's class.
+// The steps, each led to the least node of its target's class.
 fn steps_led(
     alloc: Global,
     steps: &[(u32, u32)],
@@ -42,7 +42,7 @@ fn steps_led(
     Ok(led)
 }
 
-/// The graph with each step led to the least node of its target's class.
+// The graph with each step led to the least node of its target's class.
 fn graph_led(alloc: Global, graph: &Graph, least: &[u32]) -> Result<Graph, AllocError>
     requires size { length least.now ≡ length graph.now.nodes }
     requires least { AreLeast graph.now (class_in least.now) }
@@ -55,7 +55,7 @@ fn graph_led(alloc: Global, graph: &Graph, least: &[u32]) -> Result<Graph, Alloc
     Ok(Graph::new(nodes, starts, steps))
 }
 
-/// The graph in which steps lead to the least nodes alone, and only these are left.
+// The graph in which steps lead to the least nodes alone, and only these are left.
 fn led_to_least(alloc: Global, graph: &Graph, least: &[u32]) -> Result<Graph, NoMemory>
     requires size { length least.now ≡ length graph.now.nodes }
     requires least { AreLeast graph.now (class_in least.now) }

@@ -23,8 +23,11 @@ use std::alloc::{AllocError, Global};
 /// statement ranks their paths; without it nothing is claimed.
 #[derive(Drop)]
 pub struct Claims<'a> {
+    /// The statement that governs the prefix, where the prefix has a case.
     pub statement: Option<&'a Statement>,
+    /// The routers that are claimed.
     pub routers: LocSet,
+    /// The sessions that are claimed, the router first, by router and then by peer, none twice.
     pub sessions: List<(Loc, Loc)>,
 }
 
@@ -53,7 +56,7 @@ impl Claims<'_> {
     }
 }
 
-/// The sessions over which a peer hears a router in a graph.
+// The sessions over which a peer hears a router in a graph.
 fn sessions(alloc: Global, net: &Net, graph: &Graph) -> Result<List<(Loc, Loc)>, AllocError>
     ensures { IfOk result (λ links. (marks : Seq Bool) × AreMarks net.now (ends_heard graph.now) marks × (links ≡ items_where_true marks net.now.links)) }
 {

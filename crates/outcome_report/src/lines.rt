@@ -16,7 +16,7 @@ use input_output::NoMemory;
 use net_base::{Loc, Net, Prefix};
 use text_parts::{push_bytes, push_name, push_number, push_prefix};
 
-/// Adds the name of a location, where the network has it.
+// Adds the name of a location, where the network has it.
 fn push_location(text: &mut Vec<u8>, net: &Net, at: Loc) -> Result<(), NoMemory>
     ensures { OnOk result (text.new.items ≡ text.old.items ++ name_of net.now at) }
 {
@@ -57,7 +57,7 @@ pub fn push_source(
     }
 }
 
-/// Adds the names along a path, each after a space.
+// Adds the names along a path, each after a space.
 fn push_names(text: &mut Vec<u8>, net: &Net, path: &[Loc]) -> Result<(), NoMemory>
     ensures { OnOk result (text.new.items ≡ text.old.items ++ flat_map (next_name net.now) path.now) }
 {
@@ -67,7 +67,7 @@ fn push_names(text: &mut Vec<u8>, net: &Net, path: &[Loc]) -> Result<(), NoMemor
     Ok(())
 }
 
-/// Adds a path.
+// Adds a path.
 fn push_path(text: &mut Vec<u8>, net: &Net, path: &[Loc]) -> Result<(), NoMemory>
     ensures { OnOk result (text.new.items ≡ text.old.items ++ path_text net.now path.now) }
 {
@@ -75,7 +75,7 @@ fn push_path(text: &mut Vec<u8>, net: &Net, path: &[Loc]) -> Result<(), NoMemory
     push_names(text, net, path)
 }
 
-/// Adds a path with its rank.
+// Adds a path with its rank.
 fn push_ranked(text: &mut Vec<u8>, net: &Net, rank: u32, path: &[Loc]) -> Result<(), NoMemory>
     ensures { OnOk result (text.new.items ≡ text.old.items ++ ranked_text net.now rank path.now) }
 {
@@ -120,7 +120,7 @@ pub fn push_offer(
     }
 }
 
-/// Adds a class, or that there is none.
+// Adds a class, or that there is none.
 fn push_class(text: &mut Vec<u8>, class: Option<usize>) -> Result<(), NoMemory>
     ensures { OnOk result (text.new.items ≡ text.old.items ++ class_text class) }
 {

@@ -9,7 +9,7 @@ use net_base::{Loc, Tag};
 use scenarios::Outcome;
 use std::alloc::{AllocError, Global};
 
-/// Whether there is a route, with this tag.
+// Whether there is a route, with this tag.
 fn has_tag(held: Option<&Route>, tag: Tag) -> bool
     ensures { result ≡ route_has_tag (option_map (λ h. h.now) held.entry) tag }
 {
@@ -19,7 +19,7 @@ fn has_tag(held: Option<&Route>, tag: Tag) -> bool
     }
 }
 
-/// Whether a step leads on from the node that ends a router's path, which its route's tag tells, to one that hears.
+// Whether a step leads on from the node that ends a router's path, which its route's tag tells, to one that hears.
 fn is_told(case: &CaseEvidence, outcome: &Outcome, step: (u32, u32)) -> bool
     requires from { step.0 < length case.now.graph.nodes }
     requires to { step.1 < length case.now.graph.nodes }
@@ -33,7 +33,7 @@ fn is_told(case: &CaseEvidence, outcome: &Outcome, step: (u32, u32)) -> bool
         )
 }
 
-/// The ends of the steps of a case that lead on from the nodes that end routers' paths to peers that hear, the router first.
+// The ends of the steps of a case that lead on from the nodes that end routers' paths to peers that hear, the router first.
 fn case_pairs(
     alloc: Global,
     case: &CaseEvidence,

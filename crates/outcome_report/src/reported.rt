@@ -15,7 +15,7 @@ use net_base::{Loc, Net};
 use scenarios::{Outcome, Scenario};
 use std::alloc::{AllocError, Global};
 
-/// A path, if a peer isn't on it.
+// A path, if a peer isn't on it.
 fn unless_on(path: &[Loc], peer: Loc) -> Option<&[Loc]>
     ensures { option_map (λ q. peer ∷ q.now) result ≡ unlooped peer path.now }
 {
@@ -30,8 +30,10 @@ fn unless_on(path: &[Loc], peer: Loc) -> Option<&[Loc]>
 /// peers, are found once.
 #[derive(Drop)]
 pub struct ReportedOutcome<'a> {
+    /// The network.
     pub net: &'a Net,
     pub(crate) scenario: &'a Scenario,
+    /// What each router holds.
     pub outcome: &'a Outcome,
     pub(crate) case: Option<&'a CaseEvidence>,
     cut: Vec<bool>,
@@ -67,7 +69,7 @@ impl<'a> ReportedOutcome<'a> {
         })
     }
 
-    /// Whether a link joins two locations, and it lives.
+    // Whether a link joins two locations, and it lives.
     fn is_joined(&self, a: Loc, b: Loc) -> bool
         ensures { result ≡ (linked self.now.net.now a b && not (is_dead_link (failures_of self.now.scenario.now) a b)) }
     {
@@ -77,21 +79,21 @@ impl<'a> ReportedOutcome<'a> {
         }
     }
 
-    /// Whether two locations are linked, and they and their link live.
+    // Whether two locations are linked, and they and their link live.
     fn is_live(&self, a: Loc, b: Loc) -> bool
         ensures { result ≡ live self.now.net.now (failures_of self.now.scenario.now) a b }
     {
         self.is_joined(a, b) && !self.scenario.is_dead(a) && !self.scenario.is_dead(b)
     }
 
-    /// Whether the two are a router and a peer over a live link.
+    // Whether the two are a router and a peer over a live link.
     fn is_live_session(&self, router: Loc, peer: Loc) -> bool
         ensures { result ≡ (live self.now.net.now (failures_of self.now.scenario.now) router peer && is_router self.now.net.now router && is_peer self.now.net.now peer) }
     {
         self.is_live(router, peer) && self.net.is_router(router) && self.net.is_peer(peer)
     }
 
-    /// Whether a route goes on over the link of two locations, to the one of them that is a peer.
+    // Whether a route goes on over the link of two locations, to the one of them that is a peer.
     fn goes_on(&self, a: Loc, b: Loc) -> bool
         ensures { result ≡ (linked self.now.net.now a b && list_any (joins a b) (ends_told self.now.outcome.now.routes (case_in self.now))) }
     {

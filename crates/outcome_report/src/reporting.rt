@@ -25,7 +25,7 @@ use scenarios::{Outcome, Scenario};
 use std::alloc::Global;
 use text_parts::push_bytes;
 
-/// Of what a report is: a prefix on a network under a policy, and the sources that are claimed for it.
+// Of what a report is: a prefix on a network under a policy, and the sources that are claimed for it.
 #[derive(Drop)]
 struct Subject<'a> {
     net: &'a Net,
@@ -34,7 +34,7 @@ struct Subject<'a> {
     claims: Claims<'a>,
 }
 
-/// Adds what a router has: that it is dead, an origin, without a route, or its path.
+// Adds what a router has: that it is dead, an origin, without a route, or its path.
 fn push_state<S: Scene>(
     text: &mut Vec<u8>,
     subject: &Subject<'_>,
@@ -59,7 +59,7 @@ fn push_state<S: Scene>(
     }
 }
 
-/// Adds the line of a router.
+// Adds the line of a router.
 #[tactic(auto, unfolding(crate::specs::Lines::router_line))]
 fn push_router<S: Scene>(
     text: &mut Vec<u8>,
@@ -79,7 +79,7 @@ fn push_router<S: Scene>(
     push_bytes(text, b"\n")
 }
 
-/// Adds the lines of the routers.
+// Adds the lines of the routers.
 fn push_routers<S: Scene>(
     text: &mut Vec<u8>,
     subject: &Subject<'_>,
@@ -96,7 +96,7 @@ fn push_routers<S: Scene>(
     Ok(())
 }
 
-/// Adds the path that is told of a session.
+// Adds the path that is told of a session.
 fn push_told(
     text: &mut Vec<u8>,
     net: &Net,
@@ -112,7 +112,7 @@ fn push_told(
     }
 }
 
-/// Adds the line of a session of a router and a peer.
+// Adds the line of a session of a router and a peer.
 #[tactic(auto, unfolding(crate::specs::Lines::session_line))]
 fn push_session<S: Scene>(
     alloc: Global,
@@ -133,7 +133,7 @@ fn push_session<S: Scene>(
     push_bytes(text, b"\n")
 }
 
-/// Adds the lines of the claimed sessions.
+// Adds the lines of the claimed sessions.
 fn push_sessions<S: Scene>(
     alloc: Global,
     text: &mut Vec<u8>,

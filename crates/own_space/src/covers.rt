@@ -35,7 +35,7 @@ pub fn table_of(alloc: Global, origins: &[Origin]) -> Result<PatternTable, NoMem
     Ok(table)
 }
 
-/// Whether every prefix of each pattern is in one that was put in.
+// Whether every prefix of each pattern is in one that was put in.
 fn are_covered(table: &PatternTable, patterns: &[Pattern]) -> bool
     ensures { (qs : Items PlainPattern) → Holds table.now qs → result ≡ list_all (covered qs) patterns.now }
 {
@@ -47,7 +47,7 @@ fn are_covered(table: &PatternTable, patterns: &[Pattern]) -> bool
     true
 }
 
-/// Puts patterns in.
+// Puts patterns in.
 fn note_all(table: &mut PatternTable, patterns: &[Pattern]) -> Result<(), NoMemory>
     ensures { (qs : Items PlainPattern) → Holds table.old qs → OnOk result (Holds table.new (qs ++ patterns.now)) }
 {

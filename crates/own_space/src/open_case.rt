@@ -11,7 +11,7 @@ pub struct OpenCase {
     pub statement: u32,
 }
 
-/// The number of the first of these cases that has the statement.
+// The number of the first of these cases that has the statement.
 fn number_of(cases: &[OpenCase], statement: u32) -> Option<usize>
     ensures { result ≡ number_in cases.now statement }
 {

@@ -5,6 +5,7 @@ use net_base::{Pattern, Prefix};
 /// aren't originated.
 #[derive(Clone, Copy)]
 pub struct OpenPart {
+    /// The prefixes of the part are among those of this pattern.
     pub pattern: Pattern,
     /// The originated prefix.
     pub within: Prefix,

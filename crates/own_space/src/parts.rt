@@ -16,7 +16,7 @@ use net_base::Pattern;
 use policy_base::{Origin, Policy, Statement};
 use std::alloc::Global;
 
-/// Adds a part, unless all of its prefixes are in patterns before it.
+// Adds a part, unless all of its prefixes are in patterns before it.
 fn push_new(parts: &mut Vec<OpenPart>, table: &PatternTable, part: OpenPart) -> Result<(), NoMemory>
     ensures { (qs : Items PlainPattern) → Holds table.now qs → OnOk result (parts.new.items ≡ parts.old.items ++ new_part qs part) }
 {
@@ -27,7 +27,7 @@ fn push_new(parts: &mut Vec<OpenPart>, table: &PatternTable, part: OpenPart) -> 
     Ok(())
 }
 
-/// Adds the part of a pattern in an originated prefix.
+// Adds the part of a pattern in an originated prefix.
 fn push_part(
     parts: &mut Vec<OpenPart>,
     table: &PatternTable,
@@ -52,7 +52,7 @@ fn push_part(
     }
 }
 
-/// Adds the parts of a pattern, by originated prefix.
+// Adds the parts of a pattern, by originated prefix.
 fn push_parts(
     parts: &mut Vec<OpenPart>,
     table: &PatternTable,
@@ -68,7 +68,7 @@ fn push_parts(
     Ok(())
 }
 
-/// Adds the parts of a pattern, where its statement has one of the cases.
+// Adds the parts of a pattern, where its statement has one of the cases.
 fn push_pattern(
     parts: &mut Vec<OpenPart>,
     table: &PatternTable,
@@ -90,7 +90,7 @@ fn push_pattern(
     }
 }
 
-/// Adds the parts of a statement, and puts its patterns into the table.
+// Adds the parts of a statement, and puts its patterns into the table.
 fn push_statement(
     parts: &mut Vec<OpenPart>,
     table: &mut PatternTable,
@@ -108,7 +108,7 @@ fn push_statement(
     Ok(())
 }
 
-/// Adds the parts of statements.
+// Adds the parts of statements.
 fn push_statements(
     parts: &mut Vec<OpenPart>,
     table: &mut PatternTable,

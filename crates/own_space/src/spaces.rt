@@ -15,7 +15,7 @@ use net_base::{Pattern, Prefix};
 use policy_base::Origin;
 use std::alloc::Global;
 
-/// All that is inside a prefix.
+// All that is inside a prefix.
 fn all_in(prefix: Prefix) -> Pattern
     ensures { result ≡ all_inside prefix }
 {
@@ -23,21 +23,21 @@ fn all_in(prefix: Prefix) -> Pattern
     Pattern::new(prefix, 32)
 }
 
-/// Whether a prefix is inside one that holds space of its own. The default route holds none.
+// Whether a prefix is inside one that holds space of its own. The default route holds none.
 fn holds_own(outer: Prefix, prefix: Prefix) -> bool
     ensures { result ≡ holds_its_own outer prefix }
 {
     outer.len() > 0 && all_in(outer).contains(prefix)
 }
 
-/// Whether a prefix is inside a shorter one.
+// Whether a prefix is inside a shorter one.
 fn is_around(outer: Prefix, prefix: Prefix) -> bool
     ensures { result ≡ is_shorter_around outer prefix }
 {
     holds_own(outer, prefix) && outer.len() < prefix.len()
 }
 
-/// Whether an originated prefix is inside a shorter one.
+// Whether an originated prefix is inside a shorter one.
 fn is_within(origins: &[Origin], origin: &Origin) -> bool
     ensures { result ≡ is_within_some origins.now origin.now }
 {
@@ -49,7 +49,7 @@ fn is_within(origins: &[Origin], origin: &Origin) -> bool
     false
 }
 
-/// Whether an originated prefix holds space and is inside no shorter one.
+// Whether an originated prefix holds space and is inside no shorter one.
 fn is_outer(origins: &[Origin], origin: &Origin) -> bool
     ensures { result ≡ is_outer_of origins.now origin.now }
 {

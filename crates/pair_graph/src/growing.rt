@@ -39,7 +39,7 @@ impl Growing {
         }
     }
 
-    /// The number of a pair. It is put behind the others, as found from this one, where it isn't among them.
+    // The number of a pair. It is put behind the others, as found from this one, where it isn't among them.
     fn number_of(&mut self, from: u32, pair: NodePair) -> Result<u32, PairFault>
         requires few { length self.old.pairs.keys ≤ most_nodes }
         requires size { length self.old.before.items ≡ length self.old.pairs.keys }
@@ -76,14 +76,14 @@ impl Growing {
         Ok(())
     }
 
-    /// The pair with a number, if there is one.
+    // The pair with a number, if there is one.
     fn pair(&self, number: u32) -> Option<NodePair>
         ensures { result ≡ slice_get self.now.pairs.keys number }
     {
         self.pairs.get_index(number as usize).copied()
     }
 
-    /// Adds the step of a pair to a location, where it has one.
+    // Adds the step of a pair to a location, where it has one.
     fn ask(
         &mut self,
         number: u32,
@@ -119,7 +119,7 @@ impl Growing {
         Ok(())
     }
 
-    /// Adds the steps of a pair, in order of location.
+    // Adds the steps of a pair, in order of location.
     fn ask_all(
         &mut self,
         number: u32,
@@ -180,7 +180,7 @@ impl Growing {
         self.pairs.len() as u32
     }
 
-    /// The pair with a number.
+    // The pair with a number.
     fn item(&self, number: usize) -> NodePair
         requires { number < length self.now.pairs.keys }
         ensures { slice_get self.now.pairs.keys number ≡ Some result }
@@ -191,7 +191,7 @@ impl Growing {
         *pair
     }
 
-    /// The node of a pair.
+    // The node of a pair.
     fn node(&self, number: usize) -> Node
         requires { number < length self.now.pairs.keys }
         ensures { option_map pair_node (slice_get self.now.pairs.keys number) ≡ Some result }

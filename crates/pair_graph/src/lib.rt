@@ -1,4 +1,4 @@
-//! The graph of pairs of nodes to which the same walks lead in two graphs.
+//! The graph of pairs of nodes to which the same walks lead in two graphs, numbered by the first of the shortest walks to each.
 //!
 //! What two policies say of the walks of a prefix is in two graphs: each walk leads to a node of either one, or to none. Here is a third
 //! graph whose nodes stand for the pairs of nodes to which one and the same walk leads. One of the two may be missing, where the walk leads
@@ -14,7 +14,11 @@
 //! a pair at a location takes two look-ups, and the order of locations comes by itself. There may be as many pairs as the product of both
 //! counts of nodes, so the caller says how many steps there is room for.
 //!
-//! No network and no policy is known here, and the two graphs need no rules but those that each graph keeps.
+//! It is made to compare two policies; no command uses it yet. The two graphs need no rules but those that each graph keeps.
+//!
+//! Compiling doesn't need it.
+//!
+//! It knows nothing of networks, policies and ranks.
 #![tactic(auto)]
 
 mod fault;

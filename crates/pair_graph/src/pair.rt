@@ -7,8 +7,11 @@ use net_base::Loc;
 /// The nodes in which a walk ends in two graphs, and where it ends. One of the nodes may be missing.
 #[derive(Clone, Copy, Debug, PartialEq, Eq, Hash)]
 pub struct NodePair {
+    /// The location in which the walk ends.
     pub place: Loc,
+    /// The number, from 0, of its node in the first graph, if it leads to one.
     pub first: Option<u32>,
+    /// The number, from 0, of its node in the second graph, if it leads to one.
     pub second: Option<u32>,
 }
 

@@ -23,7 +23,7 @@ pub struct PairGraph {
     ghost finders: { AreFinders graph before },
 }
 
-/// Whether a node is a start.
+// Whether a node is a start.
 fn is_start(graph: &Graph, node: u32) -> bool
     ensures { result ≡ is_start_of graph.now node }
 {

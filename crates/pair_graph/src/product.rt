@@ -15,7 +15,7 @@ use graph_base::Graph;
 use net_base::List;
 use std::alloc::{AllocError, Global};
 
-/// The numbers below a count.
+// The numbers below a count.
 fn numbers(alloc: Global, count: u32) -> Result<List<u32>, AllocError>
     ensures { IfOk result (λ ns. ns ≡ numbers_below count) }
 {
@@ -26,7 +26,7 @@ fn numbers(alloc: Global, count: u32) -> Result<List<u32>, AllocError>
     Ok(all)
 }
 
-/// The graph of the pairs that were found, of which so many are starts.
+// The graph of the pairs that were found, of which so many are starts.
 fn graph_of(alloc: Global, growing: Growing, starts: u32) -> Result<PairGraph, AllocError>
     requires { (w : Walks) × (k : ℕ) × AreWalks w × (length growing.pairs.keys ≤ k) × IsGrown w starts growing.pairs.keys growing.before.items growing.steps.items k 0 }
     ensures graph { (g h : PlainGraph) (width k : ℕ) → AreWalks (walks_of g h width) → length growing.pairs.keys ≤ k

@@ -20,14 +20,14 @@ pub(crate) struct Side {
     steps: Vec<Option<u32>>,
 }
 
-/// What a table has at a place, if anything.
+// What a table has at a place, if anything.
 fn at(table: &[Option<u32>], place: usize) -> Option<u32>
     ensures { result ≡ entry table.now place }
 {
     *table.get(place)?
 }
 
-/// Notes a number at a place of a table, where none is noted there.
+// Notes a number at a place of a table, where none is noted there.
 fn note(table: &mut Vec<Option<u32>>, place: usize, number: u32)
     requires { place < length table.old.items }
     ensures noted { (k : ℕ) → entry table.new.items k ≡ or_else (entry table.old.items k) (place == k) number }
@@ -38,7 +38,7 @@ fn note(table: &mut Vec<Option<u32>>, place: usize, number: u32)
     }
 }
 
-/// A width that has room for one more location.
+// A width that has room for one more location.
 fn widened(width: u32, place: Loc) -> u32
     requires { width ≤ 65536 }
     ensures kept { width ≤ result }
@@ -64,7 +64,7 @@ pub(crate) fn width_of(graph: &Graph) -> u32
     width
 }
 
-/// The start at each location.
+// The start at each location.
 fn starts_of(alloc: Global, graph: &Graph, width: u32) -> Result<Vec<Option<u32>>, AllocError>
     requires { IsWithin graph.now width }
     ensures { IfOk result (λ table. AreStarts graph.now table.items) }
@@ -76,7 +76,7 @@ fn starts_of(alloc: Global, graph: &Graph, width: u32) -> Result<Vec<Option<u32>
     Ok(table)
 }
 
-/// The steps of each node, by location.
+// The steps of each node, by location.
 fn steps_of(alloc: Global, graph: &Graph, width: u32) -> Result<Vec<Option<u32>>, AllocError>
     requires { IsWithin graph.now width }
     ensures { IfOk result (λ table. AreSteps graph.now width table.items) }

@@ -1,5 +1,6 @@
-//! What the rows of a place are in the graph of a pair of cases, and which node shows the first walk of each: laws and the values that they
-//! speak of, without other code.
+//! The laws of the rows of a place in the graph of a pair of cases: those that are met there are all, the least node of each
+//! shows its first walk, and they can be noted one by one; and which graphs show the ranks that a policy gives. Of code there
+//! are only the values that they speak of.
 //!
 //! The graph of the pairs of nodes of two cases has what is needed (`pair_graph`): a walk leads to one of its nodes, and the ranks of that
 //! node's two parts are the ranks that the policies give the walk. So the rows of a router are those of the nodes at it, and the rows of its
@@ -11,6 +12,10 @@
 //!
 //! That the two graphs say of walks what the policies say (`ShowsRanks`) is a premise of these. The trimmed graphs of cases do
 //! (`proofs/CaseRanks`), and so does no graph at all where a policy permits no walk.
+//!
+//! Compiling doesn't need it.
+//!
+//! It knows nothing of how rows are told.
 #![tactic(auto)]
 
 mod laws;

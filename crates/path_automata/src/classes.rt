@@ -25,7 +25,7 @@ pub fn classes_of(
     classes_by(alloc, sets.as_slice(), locations)
 }
 
-/// Gives those of the first locations, so many, that are in the same sets the same class.
+// Gives those of the first locations, so many, that are in the same sets the same class.
 fn classes_by(
     alloc: Global,
     sets: &[LocSet],
@@ -44,7 +44,7 @@ fn classes_by(
     Ok((classes, signatures.len()))
 }
 
-/// Whether each set holds the location.
+// Whether each set holds the location.
 fn signature_of(alloc: Global, sets: &[LocSet], at: Loc) -> Result<Vec<bool>, AllocError>
     ensures { IfOk result (λ r. r.items ≡ map (λ s. holds s at) sets.now) }
 {
@@ -55,7 +55,7 @@ fn signature_of(alloc: Global, sets: &[LocSet], at: Loc) -> Result<Vec<bool>, Al
     Ok(signature)
 }
 
-/// The sets of the terms, so that what holds of each of these holds of each set of each term's expression.
+// The sets of the terms, so that what holds of each of these holds of each set of each term's expression.
 fn gather(alloc: Global, terms: &Terms) -> Result<IndexSet<LocSet>, AllocError>
     ensures { IfOk result (λ r. (p : LocSet → Bool) → IsTrue (list_all p r.keys) → IsTrue (list_all (sets_pass p) (values terms.now))) }
 {
@@ -66,7 +66,7 @@ fn gather(alloc: Global, terms: &Terms) -> Result<IndexSet<LocSet>, AllocError>
     Ok(sets)
 }
 
-/// Puts the set of a term to the others, if it is a set.
+// Puts the set of a term to the others, if it is a set.
 fn add_set(sets: &mut IndexSet<LocSet>, terms: &Terms, number: u32) -> Result<(), AllocError>
     requires known { number < length (values terms.now) }
     ensures { OnOk result (Gathers sets.old.keys sets.new.keys (take number (values terms.now)) (value terms.now number)) }

@@ -14,7 +14,7 @@ use net_base::Loc;
 use path_terms::{Term, Terms, both_of, complement_of, either_of, holds_empty};
 use std::alloc::Global;
 
-/// Whether derivatives of the term are kept: of lists and complements, since those of others cost no more than a look-up.
+// Whether derivatives of the term are kept: of lists and complements, since those of others cost no more than a look-up.
 fn is_kept(terms: &Terms, e: u32) -> bool
     requires known { e < length (values terms.now) }
 {
@@ -24,7 +24,7 @@ fn is_kept(terms: &Terms, e: u32) -> bool
     }
 }
 
-/// The derivative of a term by a location.
+// The derivative of a term by a location.
 #[cycle(derivative)]
 fn derivative(
     terms: &mut Terms,
@@ -55,7 +55,7 @@ fn derivative(
     }
 }
 
-/// The derivative of a term by a location, made anew.
+// The derivative of a term by a location, made anew.
 #[cycle(derivative)]
 fn made(
     terms: &mut Terms,
@@ -118,7 +118,7 @@ fn made(
     }
 }
 
-/// A list of the same numbers.
+// A list of the same numbers.
 fn copied(alloc: Global, numbers: &[u32]) -> Result<Vec<u32>, NoMemory>
     ensures { IfOk result (λ r. r.items ≡ numbers.now) }
 {

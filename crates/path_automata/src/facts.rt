@@ -19,7 +19,7 @@ pub struct Facts {
     pub dead: bool,
 }
 
-/// The place, from 1, of the first that holds the empty list.
+// The place, from 1, of the first that holds the empty list.
 fn first_with_empty(terms: &Terms, numbers: &[u32]) -> Option<u32>
     requires known { are_known (length (values terms.now)) numbers.now ≡ true }
     requires few { length numbers.now ≤ ALTERNATIVES }
@@ -33,7 +33,7 @@ fn first_with_empty(terms: &Terms, numbers: &[u32]) -> Option<u32>
     None
 }
 
-/// Whether each is Never.
+// Whether each is Never.
 fn is_each_never(terms: &Terms, numbers: &[u32]) -> bool
     requires known { are_known (length (values terms.now)) numbers.now ≡ true }
     ensures { result ≡ list_all is_never_test (map (value terms.now) numbers.now) }

@@ -74,7 +74,7 @@ impl Memo {
         self.next.resize(room, UNKNOWN)
     }
 
-    /// How many places the rows up to that of the state take, if they can be counted.
+    // How many places the rows up to that of the state take, if they can be counted.
     fn room(&self, state: u64) -> Option<usize>
         ensures { IfSome result (λ room. room ≡ (state + 1) * self.now.count) }
     {
@@ -95,7 +95,7 @@ impl Memo {
         }
     }
 
-    /// Where the next state of the state and the location's class stands.
+    // Where the next state of the state and the location's class stands.
     fn place(&self, state: u64, at: Loc) -> Option<usize>
         ensures { IfSome result (λ place. IsPlace self.now state at place) }
     {

@@ -51,8 +51,8 @@ pub fn reversal_of(
     }
 }
 
-/// The normal form of the reversed expression and then the tail. Reversing a chain so puts each place before the later
-/// ones once.
+// The normal form of the reversed expression and then the tail. Reversing a chain so puts each place before the later
+// ones once.
 #[cycle(reversal)]
 fn reversed_onto(
     terms: &mut Terms,
@@ -74,7 +74,7 @@ fn reversed_onto(
     terms.seq_of(first, tail)
 }
 
-/// The normal form of each reversed expression.
+// The normal form of each reversed expression.
 #[cycle(reversal)]
 fn reversals(
     terms: &mut Terms,

@@ -9,7 +9,7 @@ use input_output::NoMemory;
 use path_terms::{Term, Terms, either_of};
 use std::alloc::Global;
 
-/// Whether the term is neither Never nor Empty nor a sequence.
+// Whether the term is neither Never nor Empty nor a sequence.
 fn is_plain(terms: &Terms, n: u32) -> bool
     requires known { n < length (values terms.now) }
     ensures never { result ≡ true → is_never_test (value terms.now n) ≡ false }
@@ -41,7 +41,7 @@ pub fn front(terms: &mut Terms, e: u32, a: u32, b: u32, first: u32) -> Result<u3
     terms.seq_of(first, b)
 }
 
-/// Whether the term is an alternation.
+// Whether the term is an alternation.
 fn is_either(terms: &Terms, n: u32) -> bool
     requires known { n < length (values terms.now) }
     ensures { result ≡ false → value terms.now n ≡ either_spec (value terms.now n ∷ never ∷ []) }

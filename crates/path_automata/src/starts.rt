@@ -14,7 +14,7 @@ use path_exprs::{Part, RankedExpr};
 use path_terms::{Terms, both_of, complement_of, either_of};
 use std::alloc::Global;
 
-/// The terms at these places.
+// The terms at these places.
 fn picked(alloc: Global, terms: &[u32], places: &[usize]) -> Result<Vec<u32>, NoMemory>
     requires known { are_known (length terms.now) places.now ≡ true }
     ensures { IfOk result (λ r. r.items ≡ map (λ n. get_or terms.now n 0) places.now) }
@@ -26,7 +26,7 @@ fn picked(alloc: Global, terms: &[u32], places: &[usize]) -> Result<Vec<u32>, No
     Ok(all)
 }
 
-/// The normal form of the reversed expression of a part, where those of the parts before it have these terms.
+// The normal form of the reversed expression of a part, where those of the parts before it have these terms.
 fn start_of_part(
     terms: &mut Terms,
     alloc: Global,
@@ -52,7 +52,7 @@ fn start_of_part(
     }
 }
 
-/// The normal form of the reversed expression of each part. What several share is turned once.
+// The normal form of the reversed expression of each part. What several share is turned once.
 fn starts_of_parts(
     terms: &mut Terms,
     alloc: Global,

@@ -144,7 +144,7 @@ impl Automata {
         Ok(State(number as u64))
     }
 
-    /// What is asked of a state.
+    // What is asked of a state.
     fn facts_at(&self, state: State) -> Facts
         requires known { state < length (states_of self.now) }
         ensures { (s : List Expression) → IsState self.now state s → result ≡ facts_spec s }
@@ -169,7 +169,7 @@ impl Automata {
     }
 }
 
-/// Puts what is asked of a state at its number, which is at most one past the last.
+// Puts what is asked of a state at its number, which is at most one past the last.
 fn put_facts(all: &mut Vec<Facts>, number: usize, facts: Facts) -> Result<(), NoMemory>
     requires within { number ≤ vec_len all.old }
     ensures before { (i : ℕ) → i < number → slice_get all.new.items i ≡ slice_get all.old.items i }

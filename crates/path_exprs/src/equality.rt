@@ -39,6 +39,7 @@ impl Hash for Expr {
     }
 }
 
+// Feeds an expression to a hasher: the place of its variant, then what it is made of.
 #[cycle(feed)]
 fn feed<H: Hasher>(e: &Expr, state: &mut H)
     ensures { state.new ≡ fold H.write state.old (writes (view e.now)) }
@@ -74,6 +75,7 @@ fn feed<H: Hasher>(e: &Expr, state: &mut H)
     }
 }
 
+// Feeds each of these expressions.
 #[cycle(feed)]
 fn feed_each<H: Hasher>(es: &[Expr], state: &mut H)
     ensures { state.new ≡ fold H.write state.old (writes_each (expressions_of (views es.now))) }
@@ -83,6 +85,7 @@ fn feed_each<H: Hasher>(es: &[Expr], state: &mut H)
     }
 }
 
+// Feeds the words of a set.
 fn feed_words<H: Hasher>(words: &[u64], state: &mut H)
     ensures { state.new ≡ fold H.write state.old (flat_map fed.u64 words.now) }
 {

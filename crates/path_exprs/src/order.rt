@@ -7,7 +7,7 @@ ghost use Rattle.path_exprs.specs.View.{view, views};
 use crate::expr::Expr;
 use std::cmp::Ordering;
 
-/// The place of the variant.
+// The place of the variant.
 fn variant(e: &Expr) -> u8
     ensures { result ≡ variant_of (view e.now) }
 {
@@ -42,6 +42,7 @@ pub fn compare(e: &Expr, f: &Expr) -> Ordering
     }
 }
 
+/// Which of two lists of expressions comes first: the first place where they differ tells, and else the shorter one comes first.
 #[cycle(compare)]
 pub fn compare_all(es: &[Expr], fs: &[Expr]) -> Ordering
     ensures { result ≡ compare_lists (expressions_of (views es.now)) (expressions_of (views fs.now)) }

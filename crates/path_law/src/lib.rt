@@ -1,4 +1,21 @@
-//! Laws of expressions, each the contract of a function without a body.
+//! The laws of expressions over locations, and of the expressions of calls and of ranked expressions; no code.
+//!
+//! Each law is the contract of a function without a body. Those of expressions alone:
+//!
+//! - A test decides which lists an expression holds (`membership_is_decided`).
+//! - The normal form for a network holds the same lists of its locations (`normal_form_keeps_membership`), and its members ascend
+//!   (`members_ascend`).
+//! - The derivative takes off a location, and the reversal reverses the lists (`derivative_takes_off_a_location`,
+//!   `reversal_reverses_lists`).
+//!
+//! Together they say that derivatives of reversed normal forms, one location after another from the origin end, find the first expression
+//! that holds a list (`derivatives_decide`). So following states is reading the policy.
+//!
+//! Those of policies: a list of at least two locations is in the expression of an alternative exactly where it meets the alternative
+//! (`alternatives_are_expressions`), and its rank is the place, from 1, of the first such expression (`ranks_are_first_places`). Lists of
+//! one location are left out, since a walk has a source and an origin.
+//!
+//! It knows nothing of graphs.
 #![tactic(auto)]
 
 ghost use Rattle.std.specs.Prelude.{◌≡◌, ◌≤◌, ◌↔◌, ◌∷◌, [], ℕ, List, length, map, reverse, true};

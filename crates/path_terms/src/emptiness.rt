@@ -26,7 +26,7 @@ pub fn holds_empty(terms: &Terms, number: u32) -> bool
     }
 }
 
-/// Whether the empty list is in one of these, all below a number.
+// Whether the empty list is in one of these, all below a number.
 #[cycle(holds_empty)]
 fn some_holds_empty(terms: &Terms, bound: u32, numbers: &[u32]) -> bool
     requires bound { bound < length (values terms.now) }
@@ -41,7 +41,7 @@ fn some_holds_empty(terms: &Terms, bound: u32, numbers: &[u32]) -> bool
     false
 }
 
-/// Whether the empty list is in each of these, all below a number.
+// Whether the empty list is in each of these, all below a number.
 #[cycle(holds_empty)]
 fn each_holds_empty(terms: &Terms, bound: u32, numbers: &[u32]) -> bool
     requires bound { bound < length (values terms.now) }

@@ -22,7 +22,7 @@ pub enum Join {
 }
 
 impl Join {
-    /// The term of these members.
+    // The term of these members.
     fn term(self, members: Vec<u32>) -> Term
         ensures { result ≡ term_spec self members }
     {
@@ -33,7 +33,7 @@ impl Join {
     }
 }
 
-/// Whether no member counts beside this one.
+// Whether no member counts beside this one.
 fn is_whole(terms: &Terms, join: Join, number: u32) -> bool
     requires known { number < length (values terms.now) }
     ensures { result ≡ is_whole_test join (value terms.now number) }
@@ -44,7 +44,7 @@ fn is_whole(terms: &Terms, join: Join, number: u32) -> bool
     }
 }
 
-/// Whether no other member counts beside one of these.
+// Whether no other member counts beside one of these.
 fn is_whole_among(terms: &Terms, join: Join, numbers: &[u32]) -> bool
     requires known { are_known (length (values terms.now)) numbers.now ≡ true }
     ensures { result ≡ list_any (is_whole_test join) (map (value terms.now) numbers.now) }
@@ -57,7 +57,7 @@ fn is_whole_among(terms: &Terms, join: Join, numbers: &[u32]) -> bool
     false
 }
 
-/// The member beside which no other counts.
+// The member beside which no other counts.
 fn whole(terms: &mut Terms, join: Join) -> Result<u32, NoMemory>
     ensures made { IfOk result (λ n. value terms.new n ≡ whole_spec join) }
     ensures known { IfOk result (λ n. n < length (values terms.new)) }
@@ -69,7 +69,7 @@ fn whole(terms: &mut Terms, join: Join) -> Result<u32, NoMemory>
     }
 }
 
-/// What no member makes.
+// What no member makes.
 fn nothing(terms: &mut Terms, join: Join) -> Result<u32, NoMemory>
     ensures made { IfOk result (λ n. value terms.new n ≡ nothing_spec join) }
     ensures known { IfOk result (λ n. n < length (values terms.new)) }
@@ -81,7 +81,7 @@ fn nothing(terms: &mut Terms, join: Join) -> Result<u32, NoMemory>
     }
 }
 
-/// What a member adds.
+// What a member adds.
 fn add_parts(terms: &Terms, join: Join, number: u32, all: &mut Vec<u32>) -> Result<(), NoMemory>
     requires known { number < length (values terms.now) }
     requires all_known { are_known (length (values terms.now)) all.old.items ≡ true }
@@ -94,7 +94,7 @@ fn add_parts(terms: &Terms, join: Join, number: u32, all: &mut Vec<u32>) -> Resu
     }
 }
 
-/// What the members add.
+// What the members add.
 fn flat(terms: &Terms, alloc: Global, join: Join, members: &[u32]) -> Result<Vec<u32>, NoMemory>
     requires known { are_known (length (values terms.now)) members.now ≡ true }
     ensures same { IfOk result (λ r. sorted (map (value terms.now) r.items) ≡ sorted (flat_map (parts join) (map (value terms.now) members.now))) }
@@ -107,7 +107,7 @@ fn flat(terms: &Terms, alloc: Global, join: Join, members: &[u32]) -> Result<Vec
     Ok(all)
 }
 
-/// In ascending order and without repeats.
+// In ascending order and without repeats.
 fn settle(numbers: &mut Vec<u32>)
     ensures { IsAscendingOf numbers.old.items numbers.new.items }
 {
@@ -115,7 +115,7 @@ fn settle(numbers: &mut Vec<u32>)
     numbers.dedup();
 }
 
-/// The normal form of the joined members.
+// The normal form of the joined members.
 fn joined(terms: &mut Terms, alloc: Global, join: Join, members: &[u32]) -> Result<u32, NoMemory>
     requires known { are_known (length (values terms.old)) members.now ≡ true }
     ensures made { IfOk result (λ n. value terms.new n ≡ joined_spec join (map (value terms.old) members.now)) }

@@ -37,7 +37,7 @@ pub fn complement_of(terms: &mut Terms, a: u32) -> Result<u32, NoMemory>
     }
 }
 
-/// Whether the two sets are equal.
+// Whether the two sets are equal.
 fn is_same(a: &LocSet, b: &LocSet) -> bool
     ensures { result ≡ same_set a.now b.now }
 {

@@ -88,7 +88,7 @@ impl Terms {
         }
     }
 
-    /// Both sides of a sequence.
+    // Both sides of a sequence.
     fn sides(&self, number: u32) -> Option<(u32, u32)>
         requires known { number < length (values self.now) }
         ensures some { IfSome result (λ p. value self.now number ≡ seq (value self.now p.0) (value self.now p.1)) }
@@ -101,7 +101,7 @@ impl Terms {
         }
     }
 
-    /// A sequence of two sides that are neither Never nor Empty.
+    // A sequence of two sides that are neither Never nor Empty.
     fn after(&mut self, a: u32, c: u32) -> Result<u32, NoMemory>
         requires first { a < length (values self.old) }
         requires second { c < length (values self.old) }

@@ -26,11 +26,17 @@ pub enum SetCall {
 /// Which call it is, without its sets.
 #[derive(Clone, Copy)]
 pub enum CallWord {
+    /// `any`: every path.
     Any,
+    /// `drop`: no path.
     Drop,
+    /// `internal`: no peer occurs.
     Internal,
+    /// `link`: a step between two sets.
     Link,
+    /// `path`: a set for each place.
     Path,
+    /// A call of one set.
     Of(SetCall),
 }
 

@@ -6,8 +6,11 @@ use net_base::{List, LocSet, Prefix};
 pub struct Case {
     /// The number of the statement, from 1.
     pub statement: u32,
+    /// The locations at which the prefixes of the case are originated: routers, or all peers for an external case.
     pub origins: LocSet,
+    /// Whether the case is that of all prefixes of its statement that nothing originates.
     pub external: bool,
+    /// The originated prefixes of the case, in order of the policy; none for an external case.
     pub prefixes: List<Prefix>,
 }
 
@@ -15,5 +18,6 @@ pub struct Case {
 /// class in the configuration.
 #[derive(Drop)]
 pub struct CaseList {
+    /// The cases, those of originated prefixes first.
     pub cases: List<Case>,
 }

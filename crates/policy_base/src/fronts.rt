@@ -77,7 +77,7 @@ fn note_patterns(
     Ok(())
 }
 
-/// The first statement of a policy for each front that a pattern has.
+// The first statement of a policy for each front that a pattern has.
 fn numbers_of(alloc: Global, policy: &Policy) -> Result<IndexMap<Front, u32>, NoMemory>
     ensures { IfOk result (λ numbers. (f : Front) → get same_front numbers f ≡ first_with_front (map plain_statement policy.now.statements) f 1) }
 {

@@ -8,14 +8,14 @@ ghost use Rattle.policy_base.specs.Meaning.{at_first, at_last, front as front_of
 use crate::call::{Call, SetCall};
 use net_base::{Loc, LocSet, Net};
 
-// The path without its last location.
+/// The path without its last location.
 pub(crate) fn front(path: &[Loc]) -> &[Loc]
     ensures { result.now ≡ front_of path.now }
 {
     &path[..path.len().saturating_sub(1)]
 }
 
-// The path without its first location.
+/// The path without its first location.
 pub(crate) fn after_first(path: &[Loc]) -> &[Loc]
     ensures { result.now ≡ drop 1 path.now }
 {
@@ -25,6 +25,7 @@ pub(crate) fn after_first(path: &[Loc]) -> &[Loc]
     }
 }
 
+// Whether the first location of a path is in a set.
 fn starts_in(set: &LocSet, path: &[Loc]) -> bool
     ensures { result ≡ at_first (holds set.now) path.now }
 {
@@ -34,6 +35,7 @@ fn starts_in(set: &LocSet, path: &[Loc]) -> bool
     }
 }
 
+// Whether the first location of a path is a peer.
 fn starts_at_peer(net: &Net, path: &[Loc]) -> bool
     ensures { result ≡ at_first (is_peer net.now) path.now }
 {
@@ -43,6 +45,7 @@ fn starts_at_peer(net: &Net, path: &[Loc]) -> bool
     }
 }
 
+// Whether the last location of a path is in a set.
 fn ends_in(set: &LocSet, path: &[Loc]) -> bool
     ensures { result ≡ at_last (holds set.now) path.now }
 {
@@ -52,6 +55,7 @@ fn ends_in(set: &LocSet, path: &[Loc]) -> bool
     }
 }
 
+// Whether the last location of a path is a peer.
 fn ends_at_peer(net: &Net, path: &[Loc]) -> bool
     ensures { result ≡ at_last (is_peer net.now) path.now }
 {
@@ -61,18 +65,21 @@ fn ends_at_peer(net: &Net, path: &[Loc]) -> bool
     }
 }
 
+// Whether some location of a path is in a set.
 fn passes(set: &LocSet, path: &[Loc]) -> bool
     ensures { result ≡ list_any (holds set.now) path.now }
 {
     path.iter().any(|l| set.holds(*l))
 }
 
+/// Whether some location of a path is a peer.
 pub(crate) fn has_peer(net: &Net, path: &[Loc]) -> bool
     ensures { result ≡ list_any (is_peer net.now) path.now }
 {
     path.iter().any(|l| net.is_peer(*l))
 }
 
+// Whether a path goes in one step from a location of the one set to one of the other.
 fn has_step(from: &LocSet, to: &LocSet, path: &[Loc]) -> bool
     ensures { result ≡ some_step (λ k l. holds from.now k && holds to.now l) path.now }
 {
@@ -84,6 +91,7 @@ fn has_step(from: &LocSet, to: &LocSet, path: &[Loc]) -> bool
     false
 }
 
+// Whether a path has as many locations as there are sets, each in its set.
 fn is_each_in(sets: &[LocSet], path: &[Loc]) -> bool
     ensures { result ≡ each_in sets.now path.now }
 {

@@ -24,6 +24,7 @@ fn ends_at_origin(net: &Net, policy: &Policy, prefix: Prefix, path: &[Loc]) -> b
     }
 }
 
+// Whether some location of a path is an origin of the prefix.
 fn has_origin(net: &Net, policy: &Policy, prefix: Prefix, path: &[Loc]) -> bool
     ensures { result ≡ list_any (origin net.now (policy_of policy.now) prefix) path.now }
 {
@@ -51,6 +52,7 @@ impl FromSet {
     }
 }
 
+// Whether a path starts in a `from` set.
 fn starts_within(from: &FromSet, path: &[Loc]) -> bool
     ensures { result ≡ at_first (from_holds from.now) path.now }
 {

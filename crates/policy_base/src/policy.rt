@@ -8,22 +8,29 @@ use std::marker::Model;
 /// Which sources a statement claims: all locations, or those named.
 #[derive(Clone, Copy)]
 pub enum FromSet {
+    /// All locations.
     Any,
+    /// The locations that are named.
     Named(LocSet),
 }
 
 /// A statement: the prefixes that it governs, what their paths must meet, and the sources it claims.
 #[derive(Drop)]
 pub struct Statement {
+    /// The prefixes that the statement governs, as far as no earlier statement does: those in some of these patterns.
     pub patterns: List<Pattern>,
+    /// What a path must meet, and the rank that it then has.
     pub ranked: Ranked,
+    /// The sources that the statement claims.
     pub from: FromSet,
 }
 
 /// A prefix with the routers that originate it.
 #[derive(Clone, Copy)]
 pub struct Origin {
+    /// The prefix, which no other item originates.
     pub prefix: Prefix,
+    /// The locations that originate it. Of a policy that was read they are routers.
     pub at: LocSet,
 }
 

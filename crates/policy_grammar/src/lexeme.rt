@@ -14,9 +14,13 @@ use policy_tokens::{Next, Token, next_token};
 /// A token with what it stands for: the bytes of the text from `from` on, before `to`.
 #[derive(Clone, Copy)]
 pub struct Lexeme {
+    /// What it stands for.
     pub symbol: Symbol,
+    /// The place of its first byte in the text, from 0.
     pub from: u32,
+    /// The place behind its last byte.
     pub to: u32,
+    /// The line and the column of its first byte.
     pub place: Place,
 }
 
@@ -39,6 +43,7 @@ pub fn text_of<'a>(bytes: &'a [u8], lexeme: &Lexeme) -> &'a [u8]
     slice(bytes, lexeme.from, lexeme.to)
 }
 
+// A token with what its bytes stand for.
 fn lexeme_of(bytes: &[u8], token: &Token) -> Lexeme
     ensures { result ≡ lexeme bytes.now token.now }
 {

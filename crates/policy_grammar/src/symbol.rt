@@ -10,27 +10,49 @@ use policy_tokens::TokenKind;
 /// are those of `CallWord`; `any` also stands for a set. The end of the text has a symbol of its own.
 #[derive(Clone, Copy)]
 pub enum Symbol {
+    /// `define`.
     Define,
+    /// `originate`.
     Originate,
+    /// `at`.
     At,
+    /// `from`.
     From,
+    /// `true`.
     True,
+    /// `le`.
     Le,
+    /// `or`.
     Or,
+    /// `and`.
     And,
+    /// `not`.
     Not,
+    /// The word of a call.
     Call(CallWord),
+    /// A word that isn't one of the language.
     Name,
+    /// A figure.
     Figure,
+    /// `=>`.
     Arrow,
+    /// `>>`.
     Above,
+    /// `=`.
     Equals,
+    /// `{`.
     BraceOpen,
+    /// `}`.
     BraceClose,
+    /// `(`.
     RoundOpen,
+    /// `)`.
     RoundClose,
+    /// `,`.
     Comma,
+    /// `;`.
     Semicolon,
+    /// Nothing follows.
     EndOfText,
 }
 
@@ -292,7 +314,7 @@ fn word_symbol(bytes: &[u8]) -> Symbol
     }
 }
 
-// What a token of this kind and these bytes stands for.
+/// What a token of this kind and these bytes stands for.
 pub(crate) fn symbol_of(kind: TokenKind, bytes: &[u8]) -> Symbol
     ensures { result ≡ symbol kind bytes.now }
 {

@@ -1,8 +1,15 @@
-//! What a policy text means, said of the grammar's tree.
+//! What a policy text means, said of the grammar's tree, and the law that reading meets it. There is no code here.
 //!
-//! There is no code here. `specs/Trees` reads the tree off the grammar, and `specs/Meaning` says what it means: for each rule the
-//! places that break it, and the policy where none is broken. Each function below is the proof of the law in its contract: that
-//! the functions of `policy_rules` and `policy_parser`, by which texts are read, come to just that.
+//! `specs/Trees` reads the tree off the grammar, and `specs/Meaning` says what it means: for each rule all places that
+//! break it, in the order of the text, and the policy where none is broken. What is reported is the first place that breaks
+//! the first broken rule. Each function below is the proof of the law in its contract: that the functions of `policy_rules`
+//! and `policy_parser`, by which texts are read, come to just that. They go over items with stacks, which is how a text is
+//! read in little memory, and not how one would say the rules.
+//!
+//! A name is known only below its definition. Once each name is known and defined once, it means the same in the whole
+//! text, so values are said with what names stand for at its end. A value is also said where a rule is broken: an unknown
+//! name has no location, and a figure that is no prefix stands for all prefixes. So the value needs no premise; it counts
+//! only where no rule is broken. A count past 18446744073709551615 is reported as that number.
 //!
 //! | Law | It says |
 //! |---|---|
@@ -13,6 +20,10 @@
 //! | `first_rank_is_told`, `names_have_their_sense`, `expressions_have_their_value` | what single passes of the code come to |
 //! | `ranks_stand_beside_calls`, `unknown_names_come_first` | small cases, worked: where a `>>` may stand, and which rule is told |
 //! | `lists_hold_their_names` | a list of names has exactly the locations of its names |
+//!
+//! Compiling doesn't need it.
+//!
+//! It knows nothing of cases and configurations.
 #![tactic(auto)]
 
 ghost use Rattle.std.specs.Prelude.{◌≡◌, ℕ, List, [], ◌∷◌, ◌++◌, Err};

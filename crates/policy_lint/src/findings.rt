@@ -18,7 +18,7 @@ use policy_base::{Policy, cases, known_policy};
 use policy_tokens::{PolicyFault, Token, tokens};
 use std::alloc::Global;
 
-/// The tokens of a text that spells a policy.
+// The tokens of a text that spells a policy.
 fn tokens_for(alloc: Global, bytes: &[u8]) -> Result<Vec<Token>, NoMemory>
     requires short { length bytes.now < 4294967295 }
     requires cut { (ts : Items PlainToken) × (tokens_of bytes.now ≡ Ok ts) }

@@ -11,7 +11,7 @@ use policy_tokens::Token;
 use std::alloc::{AllocError, Global};
 use std::collections::HashMap;
 
-/// The bytes of a token.
+// The bytes of a token.
 fn token_text<'a>(bytes: &'a [u8], token: &Token) -> &'a [u8]
     ensures { result.now ≡ text_of bytes.now token.now }
 {
@@ -23,7 +23,7 @@ fn token_text<'a>(bytes: &'a [u8], token: &Token) -> &'a [u8]
     }
 }
 
-/// Counts a text once more.
+// Counts a text once more.
 fn count_one<'a>(counts: &mut HashMap<&'a [u8], u64>, text: &'a [u8]) -> Result<(), NoMemory>
     requires { count_of counts.old text.now < 2 ^ 64 - 1 }
     ensures { OnOk result ((q : Items ℕ) → count_of counts.new q ≡ (if bytes_eq text.now q then count_of counts.old text.now + 1 else count_of counts.old q)) }
@@ -33,7 +33,7 @@ fn count_one<'a>(counts: &mut HashMap<&'a [u8], u64>, text: &'a [u8]) -> Result<
     Ok(())
 }
 
-/// How many tokens have each text.
+// How many tokens have each text.
 fn text_counts<'a>(
     alloc: Global,
     bytes: &'a [u8],
@@ -48,7 +48,7 @@ fn text_counts<'a>(
     Ok(counts)
 }
 
-/// The name of the group that these tokens begin to define, if they do.
+// The name of the group that these tokens begin to define, if they do.
 fn group_in(bytes: &[u8], tokens: &[Token]) -> Option<Name>
     ensures { result ≡ group_of bytes.now tokens.now }
 {
@@ -62,7 +62,7 @@ fn group_in(bytes: &[u8], tokens: &[Token]) -> Option<Name>
     }
 }
 
-/// Puts a name behind others, where there is one.
+// Puts a name behind others, where there is one.
 fn keep(names: &mut Vec<Name>, name: Option<Name>) -> Result<(), AllocError>
     ensures { OnOk result (names.new.items ≡ names.old.items ++ named name) }
 {
@@ -72,7 +72,7 @@ fn keep(names: &mut Vec<Name>, name: Option<Name>) -> Result<(), AllocError>
     Ok(())
 }
 
-/// The names of the groups, in order of the text.
+// The names of the groups, in order of the text.
 fn group_names(alloc: Global, bytes: &[u8], tokens: &[Token]) -> Result<Vec<Name>, AllocError>
     ensures { IfOk result (λ names. names.items ≡ names_of bytes.now tokens.now) }
 {
@@ -83,14 +83,14 @@ fn group_names(alloc: Global, bytes: &[u8], tokens: &[Token]) -> Result<Vec<Name
     Ok(names)
 }
 
-/// Whether one token has this text.
+// Whether one token has this text.
 fn stands_once(counts: &HashMap<&[u8], u64>, name: &Name) -> bool
     ensures { result ≡ (count_of counts.now name.now == 1) }
 {
     counts.get(name.as_bytes()).copied().unwrap_or(0) == 1
 }
 
-/// Adds the groups of these names whose text one token has.
+// Adds the groups of these names whose text one token has.
 fn push_once(
     findings: &mut Vec<Finding>,
     counts: &HashMap<&[u8], u64>,

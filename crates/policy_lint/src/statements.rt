@@ -61,7 +61,7 @@ pub fn push_idle(
     Ok(())
 }
 
-/// Adds the alternatives of a statement whose ranks are not marked in its row.
+// Adds the alternatives of a statement whose ranks are not marked in its row.
 fn push_unreached_of(
     findings: &mut Vec<Finding>,
     ranks: &Rows,
@@ -82,7 +82,7 @@ fn push_unreached_of(
     Ok(())
 }
 
-/// The same of a statement, where it has a case.
+// The same of a statement, where it has a case.
 fn push_unreached_if(
     findings: &mut Vec<Finding>,
     ranks: &Rows,

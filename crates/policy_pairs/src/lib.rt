@@ -1,4 +1,5 @@
-//! The pairs of cases that prefixes have in two policies, and the prefixes of each.
+//! The pairs of cases, one in either of two policies, that prefixes have, each once and with its prefixes: those that are
+//! originated, or the least one of each two first patterns with what these both contain.
 //!
 //! Two policies are compared by pairs: two cases, one in either policy, that some prefix has. A case is the statement that governs the
 //! prefix, or none, and its origins. Prefixes with one pair are told the same by both policies, so each pair is looked at once. A prefix of
@@ -11,7 +12,9 @@
 //!
 //! A pair of others names its prefixes by patterns (`common`): what the first pattern of the old policy and that of the new one both contain.
 //!
-//! Nothing here knows walks. That a pair has other walks in the two policies is found by the crates above.
+//! Compiling doesn't need it.
+//!
+//! It knows nothing of walks or graphs.
 #![tactic(auto)]
 
 mod asked;

@@ -53,9 +53,13 @@ pub(crate) struct Rules {
 /// How many there are of what a limit counts, at most the greatest number of 64 bits.
 #[derive(Clone, Copy)]
 pub(crate) struct Amounts {
+    /// `define` items.
     pub definitions: u64,
+    /// Statements.
     pub statements: u64,
+    /// Patterns over all statements.
     pub patterns: u64,
+    /// Prefixes that are originated.
     pub prefixes: u64,
     /// Pairs of a prefix and an origin.
     pub pairs: u64,
@@ -109,6 +113,7 @@ impl Rules {
         }
     }
 
+    // The faults with those of one `originate` item more.
     fn with_origin(self, origin: &OriginRead) -> Rules
         ensures { result ≡ rules_with_origin self origin.now }
     {
@@ -121,6 +126,7 @@ impl Rules {
         }
     }
 
+    // The faults with those of one statement more.
     fn with_state(self, statement: &StatementRead) -> Rules
         ensures { result ≡ rules_with_state self statement.now }
     {
@@ -135,6 +141,7 @@ impl Rules {
 }
 
 impl Amounts {
+    // Nothing is counted yet.
     fn none() -> Amounts
         ensures { result ≡ no_amounts }
     {
@@ -147,6 +154,7 @@ impl Amounts {
         }
     }
 
+    // The counts with one group more.
     fn with_group(self) -> Amounts
         ensures { result ≡ amounts_with_group self }
     {
@@ -159,6 +167,7 @@ impl Amounts {
         }
     }
 
+    // The counts with one originated prefix more, which these locations originate.
     fn with_origin(self, at: &LocSet) -> Amounts
         ensures { result ≡ amounts_with_origin self at.now }
     {
@@ -171,6 +180,7 @@ impl Amounts {
         }
     }
 
+    // The counts with one statement more, which has so many patterns.
     fn with_state(self, patterns: u64) -> Amounts
         ensures { result ≡ amounts_with_state self patterns }
     {

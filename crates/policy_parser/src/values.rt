@@ -7,6 +7,7 @@ use policy_tokens::PolicyFault;
 /// A group that is defined.
 #[derive(Clone, Copy)]
 pub struct GroupRead {
+    /// The word behind `define`.
     pub name: Lexeme,
     /// The locations of its members, or the first one that is unknown.
     pub set: Result<LocSet, PolicyFault>,
@@ -17,6 +18,7 @@ pub struct GroupRead {
 pub struct OriginRead {
     /// Where the figure of the prefix stands.
     pub place: Place,
+    /// The prefix, or that its figure is none.
     pub prefix: Result<Prefix, PolicyFault>,
     /// The locations that originate it, or the first name that is unknown.
     pub at: Result<LocSet, PolicyFault>,
@@ -40,13 +42,17 @@ pub struct StatementRead {
     pub calls: Result<(), PolicyFault>,
     /// The first `path` with too many places.
     pub places: Result<(), PolicyFault>,
+    /// What it says, of use only where the rules named above are kept.
     pub value: Statement,
 }
 
 /// An item.
 #[derive(Drop)]
 pub enum ItemRead {
+    /// A `define` item.
     Group(GroupRead),
+    /// An `originate` item.
     Origin(OriginRead),
+    /// A statement.
     State(StatementRead),
 }

@@ -34,6 +34,7 @@ pub(crate) struct Verdicts<'a> {
 }
 
 impl Kept {
+    // No item is kept.
     fn new(alloc: Global) -> Kept
         ensures { plain_kept result ≡ record { origins = []; statements = [] } }
     {

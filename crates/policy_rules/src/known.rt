@@ -37,6 +37,7 @@ pub struct Known<'a> {
     ghost first: { length sets.items < LOCATIONS + DEFINITIONS → peers.items ≡ [] },
 }
 
+// The place of a name among the known ones, from 0.
 fn place_in(names: &IndexSet<&[u8]>, name: &[u8]) -> Option<usize>
     ensures { result ≡ position (bytes_eq name.now) (texts names.now.keys) }
 {

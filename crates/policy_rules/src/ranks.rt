@@ -12,10 +12,13 @@ use policy_tokens::PolicyFault;
 /// a `not` of the expression.
 #[derive(Clone, Copy)]
 pub struct Mark {
+    /// Where its first `>>` stands.
     pub first: Option<Place>,
+    /// Where the first `>>` stands that an `or` or a `not` is over.
     pub broken: Option<Place>,
 }
 
+// The first of two places, the second one where there is no first.
 fn earlier(a: Option<Place>, b: Option<Place>) -> Option<Place>
     ensures { result ≡ first_of_two a b }
 {
@@ -39,6 +42,7 @@ fn pop(marks: &mut Vec<Mark>) -> Mark
     }
 }
 
+// Puts a mark on top of the stack.
 fn push(marks: &mut Vec<Mark>, mark: Mark) -> Result<(), PolicyFault>
     ensures { GivesUnless NoMemory (λ _. reverse marks.new.items) result (Ok (mark ∷ reverse marks.old.items)) }
 {

@@ -20,7 +20,7 @@ use policy_base::{Call, Ranked, SetCall};
 use std::alloc::Global;
 use text_parts::{push_bytes, push_number};
 
-/// Adds the text of the call of each set.
+// Adds the text of the call of each set.
 fn push_set_calls(
     alloc: Global,
     texts: &mut Vec<List<u8>>,
@@ -38,7 +38,7 @@ fn push_set_calls(
     Ok(())
 }
 
-/// Two texts joined by `and`.
+// Two texts joined by `and`.
 fn pair(alloc: Global, is_bracketed: bool, one: &[u8], other: &[u8]) -> Result<List<u8>, NoMemory>
     ensures { IfOk result (λ text. text ≡ pair_text is_bracketed one.now other.now) }
 {
@@ -51,7 +51,7 @@ fn pair(alloc: Global, is_bracketed: bool, one: &[u8], other: &[u8]) -> Result<L
     Ok(List::from_vec(text))
 }
 
-/// Adds a text joined with each of others.
+// Adds a text joined with each of others.
 fn push_row(
     alloc: Global,
     texts: &mut Vec<List<u8>>,
@@ -67,7 +67,7 @@ fn push_row(
     Ok(())
 }
 
-/// Adds each of some texts joined with each of others.
+// Adds each of some texts joined with each of others.
 fn push_pairs(
     alloc: Global,
     texts: &mut Vec<List<u8>>,
@@ -83,7 +83,7 @@ fn push_pairs(
     Ok(())
 }
 
-/// Adds the text of each alternative, in brackets where it binds less strongly than `least`.
+// Adds the text of each alternative, in brackets where it binds less strongly than `least`.
 fn push_choices(
     alloc: Global,
     texts: &mut Vec<List<u8>>,
@@ -115,7 +115,7 @@ fn push_choices(
     }
 }
 
-/// Adds a line for each text, with its rank, from 1.
+// Adds a line for each text, with its rank, from 1.
 fn push_lines(text: &mut Vec<u8>, choices: &[List<u8>]) -> Result<(), NoMemory>
     ensures { OnOk result (text.new.items ≡ text.old.items ++ rank_lines_from 1 choices.now) }
 {

@@ -11,15 +11,19 @@ use policy_base::Ranked;
 use std::alloc::Global;
 use text_parts::push_bytes;
 
-// How strongly the operators bind, and a call.
+/// How strongly `>>` binds: of two operators the one with the greater number binds more strongly.
 pub(crate) const PREFER: u8 = 1;
 
+// How strongly `or` binds.
 const OR: u8 = 2;
 
+/// How strongly `and` binds.
 pub(crate) const AND: u8 = 3;
 
+/// How strongly `not` binds.
 pub(crate) const NOT: u8 = 4;
 
+// How strongly a call binds, and whatever stands in brackets.
 const CALL: u8 = 5;
 
 /// Opens a bracket, where one is needed.

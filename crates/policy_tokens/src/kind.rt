@@ -3,12 +3,19 @@
 /// What a count of a policy counts.
 #[derive(Clone, Copy, Debug, PartialEq, Eq)]
 pub enum Kind {
+    /// `define` items.
     Definitions,
+    /// Statements.
     Statements,
+    /// Patterns over all statements.
     Patterns,
+    /// Prefixes that are originated.
     Prefixes,
+    /// Pairs of a prefix and an origin.
     Origins,
+    /// Calls of a statement.
     Calls,
+    /// Places of a `path` call.
     Places,
 }
 

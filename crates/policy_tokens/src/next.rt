@@ -9,6 +9,7 @@ use net_base::Place;
 /// What stands next in a text, behind blanks and comments.
 #[derive(Clone, Copy)]
 pub enum Next {
+    /// A token.
     Token(Token),
     /// The text ends at this place.
     End(Place),

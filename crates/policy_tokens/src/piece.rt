@@ -22,6 +22,7 @@ use crate::token::TokenKind;
 pub enum Piece {
     /// A blank or a comment.
     Gap(usize),
+    /// A token of this kind.
     Token(TokenKind, usize),
     /// Nothing that may stand in a policy.
     Stray,
@@ -51,6 +52,7 @@ fn is_blank(b: u8) -> bool
     matches!(b, b' ' | b'\t' | b'\r' | b'\n')
 }
 
+// How many bytes at the front may stand in a word.
 fn word_len(bytes: &[u8]) -> usize
     ensures len { result ≡ prefix_len word_byte bytes.now }
     ensures within { result ≤ length bytes.now }
@@ -58,6 +60,7 @@ fn word_len(bytes: &[u8]) -> usize
     bytes.iter().take_while(|b| is_word_byte(**b)).count()
 }
 
+// How many bytes at the front may stand in a figure.
 fn figure_len(bytes: &[u8]) -> usize
     ensures len { result ≡ prefix_len figure_byte bytes.now }
     ensures within { result ≤ length bytes.now }
@@ -65,6 +68,7 @@ fn figure_len(bytes: &[u8]) -> usize
     bytes.iter().take_while(|b| is_figure_byte(**b)).count()
 }
 
+// How many bytes stand before the first line feed: all of them where there is none.
 fn line_len(bytes: &[u8]) -> usize
     ensures len { result ≡ prefix_len line_byte bytes.now }
     ensures within { result ≤ length bytes.now }
@@ -72,6 +76,7 @@ fn line_len(bytes: &[u8]) -> usize
     bytes.iter().take_while(|b| **b != b'\n').count()
 }
 
+// The sign that two bytes make.
 fn two_signs(a: u8, b: u8) -> Option<TokenKind>
     ensures { result ≡ pair a b }
 {
@@ -82,6 +87,7 @@ fn two_signs(a: u8, b: u8) -> Option<TokenKind>
     }
 }
 
+// The sign that one byte makes.
 fn one_sign(a: u8) -> Option<TokenKind>
     ensures { result ≡ single a }
 {
@@ -97,6 +103,7 @@ fn one_sign(a: u8) -> Option<TokenKind>
     }
 }
 
+// A word of so many bytes, unless it is longer than a word may be.
 fn word_piece(n: usize) -> Piece
     ensures rule { result ≡ word n }
     ensures within { (m : ℕ) → 0 < n → n ≤ m → IsWithin result m }

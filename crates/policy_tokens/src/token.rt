@@ -34,8 +34,11 @@ pub enum TokenKind {
 /// A token of a text: the bytes from `from` on, before `to`.
 #[derive(Clone, Copy, Debug, PartialEq, Eq)]
 pub struct Token {
+    /// What the token is.
     pub kind: TokenKind,
+    /// The place of its first byte in the text, from 0.
     pub from: u32,
+    /// The place behind its last byte.
     pub to: u32,
     /// Where its first byte stands.
     pub place: Place,

@@ -19,8 +19,11 @@ use policy_tokens::PolicyFault;
 /// A call that is a word alone.
 #[derive(Clone, Copy)]
 pub(crate) enum LoneCall {
+    /// `any`.
     Any,
+    /// `drop`.
     Drop,
+    /// `internal`.
     Internal,
 }
 
@@ -48,6 +51,7 @@ impl LoneCall {
     }
 }
 
+// The word of a call that a symbol stands for.
 fn word_of(symbol: Symbol) -> Option<CallWord>
     ensures { result ≡ word symbol }
 {

@@ -17,8 +17,11 @@ use std::alloc::Global;
 /// An operator with two sides; the first one binds most loosely.
 #[derive(Clone, Copy)]
 pub(crate) enum Operator {
+    /// `>>`: first the alternatives of the left side.
     Above,
+    /// `or`: either side.
     Or,
+    /// `and`: both sides.
     And,
 }
 

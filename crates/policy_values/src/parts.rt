@@ -70,6 +70,7 @@ fn pop(stack: &mut Vec<Ranked>) -> Ranked
     }
 }
 
+// Puts an expression on top of the stack.
 fn push(stack: &mut Vec<Ranked>, ranked: Ranked) -> Result<(), PolicyFault>
     ensures { GivesUnless NoMemory (λ _. rankings stack.new.items) result (Ok (ranking_of ranked ∷ rankings stack.old.items)) }
 {

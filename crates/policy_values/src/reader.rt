@@ -7,8 +7,12 @@ use std::alloc::Global;
 /// which is the one behind the part once this is read.
 #[derive(Clone, Copy)]
 pub struct Reader<'a> {
+    /// Where memory is taken from.
     pub alloc: Global,
+    /// The bytes of the text.
     pub text: &'a [u8],
+    /// The network.
     pub whole: &'a Whole<'a>,
+    /// The names above the part.
     pub known: &'a Known<'a>,
 }

@@ -8,8 +8,11 @@ use net_base::{LocSet, Net};
 /// policy.
 #[derive(Clone, Copy)]
 pub struct Whole<'a> {
+    /// The network.
     pub net: &'a Net,
+    /// All of its locations.
     pub all: LocSet,
+    /// Its peers.
     pub peers: LocSet,
     ghost all_is: { all ≡ locations net.now },
     ghost peers_are: { peers ≡ all_peers net.now },

@@ -30,7 +30,7 @@ pub fn is_over(net: &Net, graph: &Graph, numbers: &[u32], first: u32, second: u3
         && numbers[second as usize] <= numbers[first as usize]
 }
 
-/// The first node over which a node stands and whose offers its own row doesn't meet.
+// The first node over which a node stands and whose offers its own row doesn't meet.
 fn first_unmet(
     net: &Net,
     graph: &Graph,
@@ -55,7 +55,7 @@ fn first_unmet(
     None
 }
 
-/// The first node over which a node stands and that it doesn't match.
+// The first node over which a node stands and that it doesn't match.
 fn first_unmatched(
     alloc: Global,
     net: &Net,
@@ -77,7 +77,7 @@ fn first_unmatched(
     Ok(first_unmet(net, graph, numbers, offers, node, &own))
 }
 
-/// The first pair of nodes of which the first stands over the second and doesn't match it.
+// The first pair of nodes of which the first stands over the second and doesn't match it.
 fn first_pair(
     alloc: Global,
     net: &Net,
@@ -131,7 +131,7 @@ pub fn step_fault(
     first_pair(alloc, net, graph, numbers, &offers)
 }
 
-/// Whether a node hears.
+// Whether a node hears.
 fn some_hears(graph: &Graph) -> bool
     ensures { result ≡ false → (n : ℕ) → is_listener graph.now n ≡ false }
 {

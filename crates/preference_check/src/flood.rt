@@ -9,6 +9,7 @@ use std::alloc::{AllocError, Global};
 /// The numbers of the nodes that were come to, and those of these nodes whose neighbours weren't come to yet.
 #[derive(Drop)]
 pub struct Flood {
+    /// For each node its mark, a preference number, once a search has come to it.
     pub marks: Vec<Option<u32>>,
     waiting: Vec<u32>,
 }
@@ -28,7 +29,7 @@ impl Flood {
         })
     }
 
-    /// Comes to a node.
+    // Comes to a node.
     fn visit(&mut self, node: u32, number: u32) -> Result<(), AllocError>
         requires { node < vec_len self.old.marks }
         ensures { OnOk result (Marks number (λ n. node == n) self.old self.new) }
@@ -40,7 +41,7 @@ impl Flood {
         Ok(())
     }
 
-    /// Comes to some nodes, one after another.
+    // Comes to some nodes, one after another.
     fn visit_each(&mut self, nodes: &[u32], number: u32) -> Result<(), AllocError>
         requires { All (λ n. n < vec_len self.old.marks) nodes.now }
         ensures { OnOk result (Marks number (is_among nodes.now) self.old self.new) }

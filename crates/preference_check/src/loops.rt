@@ -22,7 +22,7 @@ use net_base::{List, Net};
 use reach_prune::{Way, marked, neighbours};
 use std::alloc::{AllocError, Global};
 
-/// Whether a number is there that is less than another one.
+// Whether a number is there that is less than another one.
 fn is_less(low: Option<u32>, number: u32) -> bool
     ensures { result ≡ false ↔ ((v : ℕ) → IsTrue (is_upto low v) → number ≤ v) }
 {
@@ -32,7 +32,7 @@ fn is_less(low: Option<u32>, number: u32) -> bool
     }
 }
 
-/// For each node the least number in a run of a node from which it is reached, or one that is less.
+// For each node the least number in a run of a node from which it is reached, or one that is less.
 fn lows(alloc: Global, lists: &[NodeList], run: &[Numbered]) -> Result<Vec<Option<u32>>, AllocError>
     requires lists { AreLists lists.now }
     requires nodes { All (λ x. x.node < length lists.now) run.now }
@@ -47,7 +47,7 @@ fn lows(alloc: Global, lists: &[NodeList], run: &[Numbered]) -> Result<Vec<Optio
     Ok(flood.marks)
 }
 
-/// Whether the nodes of a run have one number, or there is none.
+// Whether the nodes of a run have one number, or there is none.
 fn has_one_number(run: &[Numbered]) -> bool
     requires { IsAscending run.now }
     ensures { IsTrue result → (k n v w : ℕ) → IsTrue (has_node run.now k v) → IsTrue (has_node run.now n w) → v ≤ w }
@@ -55,7 +55,7 @@ fn has_one_number(run: &[Numbered]) -> bool
     run.is_empty() || run[run.len() - 1].number <= run[0].number
 }
 
-/// Whether a step leads to a node at a location whose number is greater than the mark of the first one.
+// Whether a step leads to a node at a location whose number is greater than the mark of the first one.
 fn is_too_great(
     graph: &Graph,
     numbers: &[u32],
@@ -74,7 +74,7 @@ fn is_too_great(
         && is_less(lows[step.0 as usize], numbers[step.1 as usize])
 }
 
-/// Marks the nodes that step to a node at a location whose number is greater than their own mark.
+// Marks the nodes that step to a node at a location whose number is greater than their own mark.
 fn mark_steps(
     graph: &Graph,
     numbers: &[u32],
@@ -96,7 +96,7 @@ fn mark_steps(
     }
 }
 
-/// Marks each node that may break the loop rule with itself at a router.
+// Marks each node that may break the loop rule with itself at a router.
 fn mark_suspects_at(
     alloc: Global,
     graph: &Graph,
@@ -123,7 +123,7 @@ fn mark_suspects_at(
     Ok(())
 }
 
-/// Marks each node that may break the loop rule with itself.
+// Marks each node that may break the loop rule with itself.
 fn loop_suspects(
     alloc: Global,
     net: &Net,
@@ -152,7 +152,7 @@ fn loop_suspects(
     Ok(suspects)
 }
 
-/// Puts the number of a node in at its location.
+// Puts the number of a node in at its location.
 fn take_number(
     graph: &Graph,
     numbers: &[u32],
@@ -167,7 +167,7 @@ fn take_number(
     least.lower(at, numbers[node as usize])
 }
 
-/// The least number at each location of a node that is marked.
+// The least number at each location of a node that is marked.
 fn least_numbers(
     alloc: Global,
     graph: &Graph,
@@ -187,7 +187,7 @@ fn least_numbers(
     Ok(least)
 }
 
-/// Whether a node hears, or has a number that is no greater than the least one at its location.
+// Whether a node hears, or has a number that is no greater than the least one at its location.
 fn is_no_greater(graph: &Graph, numbers: &[u32], least: &LowRow, node: u32) -> bool
     requires node { node < length graph.now.nodes }
     requires numbers { length numbers.now ≡ length graph.now.nodes }
@@ -197,7 +197,7 @@ fn is_no_greater(graph: &Graph, numbers: &[u32], least: &LowRow, node: u32) -> b
     graph.hears(node) || !is_less(low, numbers[node as usize])
 }
 
-/// Whether this is so of each of these nodes.
+// Whether this is so of each of these nodes.
 fn are_no_greater(graph: &Graph, numbers: &[u32], least: &LowRow, nodes: &[u32]) -> bool
     requires numbers { length numbers.now ≡ length graph.now.nodes }
     requires nodes { All (λ n. n < length graph.now.nodes) nodes.now }
@@ -211,7 +211,7 @@ fn are_no_greater(graph: &Graph, numbers: &[u32], least: &LowRow, nodes: &[u32])
     true
 }
 
-/// The first node over which a node stands and with which it breaks the loop rule.
+// The first node over which a node stands and with which it breaks the loop rule.
 fn first_looped(
     alloc: Global,
     net: &Net,
@@ -240,7 +240,7 @@ fn first_looped(
     Ok(None)
 }
 
-/// Notes the number of a node at its location, and says whether it is the one that is noted there.
+// Notes the number of a node at its location, and says whether it is the one that is noted there.
 fn note_number(
     graph: &Graph,
     numbers: &[u32],
@@ -263,7 +263,7 @@ fn note_number(
     }
 }
 
-/// Whether the nodes at each location have one number.
+// Whether the nodes at each location have one number.
 fn have_one_number(alloc: Global, graph: &Graph, numbers: &[u32]) -> Result<bool, AllocError>
     requires { length numbers.now ≡ length graph.now.nodes }
     ensures one { IfOk result (λ one. IsTrue one → HaveOneNumber graph.now (number_in numbers.now) (length graph.now.nodes)) }

@@ -14,7 +14,7 @@ pub struct LowRow {
     ghost listed: { (p : ℕ) → IsSome (slice_index_or least.items p None) → IsTrue (list_any (λ x. x == p) places.items) },
 }
 
-/// Whether the first number is there and no greater than the second wherever that one is there.
+// Whether the first number is there and no greater than the second wherever that one is there.
 fn is_as_low(one: Option<u32>, other: Option<u32>) -> bool
     ensures { IsTrue result ↔ ((n : ℕ) → IsTrue (is_upto other n) → IsTrue (is_upto one n)) }
 {
@@ -25,7 +25,7 @@ fn is_as_low(one: Option<u32>, other: Option<u32>) -> bool
     }
 }
 
-/// Whether a number is there and is this one.
+// Whether a number is there and is this one.
 fn is_just(low: Option<u32>, number: u32) -> bool
     ensures { IsTrue result → low ≡ Some number }
 {
@@ -35,7 +35,7 @@ fn is_just(low: Option<u32>, number: u32) -> bool
     }
 }
 
-/// Makes a row so long that it has a place.
+// Makes a row so long that it has a place.
 fn make_room(least: &mut Vec<Option<u32>>, place: usize) -> Result<(), AllocError>
     ensures same { (p : ℕ) → slice_index_or least.new.items p None ≡ slice_index_or least.old.items p None }
     ensures room { OnOk result (place < vec_len least.new) }
@@ -47,7 +47,7 @@ fn make_room(least: &mut Vec<Option<u32>>, place: usize) -> Result<(), AllocErro
     least.resize(room, None)
 }
 
-/// Takes the numbers at some places out.
+// Takes the numbers at some places out.
 fn take_out(least: &mut Vec<Option<u32>>, places: &[usize])
     ensures out { (p : ℕ) → list_any (λ x. x == p) places.now ≡ true → slice_index_or least.new.items p None ≡ None }
     ensures kept { (p : ℕ) → list_any (λ x. x == p) places.now ≡ false → slice_index_or least.new.items p None ≡ slice_index_or least.old.items p None }
@@ -107,7 +107,7 @@ impl LowRow {
         Ok(())
     }
 
-    /// Whether the place that was put in behind so many others is that of an offer, and has what that costs.
+    // Whether the place that was put in behind so many others is that of an offer, and has what that costs.
     fn is_level(&self, count: usize, offer: Offer) -> bool
         requires { count < vec_len self.now.places }
         ensures { IsTrue result → IsLevel self.now.least.items (slice_index_or self.now.places.items count 0) offer }

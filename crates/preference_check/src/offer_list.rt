@@ -6,7 +6,7 @@ use smallvec::SmallVec;
 use std::alloc::{AllocError, Global};
 use std::marker::Model;
 
-/// As many offers as lie in the list itself.
+// As many offers as lie in the list itself.
 const SHORT: usize = 4;
 
 /// What a node offers, in the order in which it was put. A short list takes no memory but its own.

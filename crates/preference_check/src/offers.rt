@@ -12,7 +12,9 @@ use std::alloc::{AllocError, Global};
 /// Something that a node offers at a location: the less it costs, the better.
 #[derive(Clone, Copy)]
 pub struct Offer {
+    /// The location at which it is offered.
     pub at: Loc,
+    /// A rank, or what a preference number lacks to the greatest number of 32 bits.
     pub cost: u32,
 }
 
@@ -35,7 +37,7 @@ pub enum Towards {
     Listeners,
 }
 
-/// The offer of a node's rank at its location, where the rank counts.
+// The offer of a node's rank at its location, where the rank counts.
 fn offer_of_rank(graph: &Graph, node: u32) -> Option<Offer>
     requires { node < length graph.now.nodes }
     ensures { result ≡ offer_of_rank graph.now node }
@@ -47,7 +49,7 @@ fn offer_of_rank(graph: &Graph, node: u32) -> Option<Offer>
     })
 }
 
-/// What a step to a node is worth.
+// What a step to a node is worth.
 fn offer_by_step(graph: &Graph, numbers: &[u32], towards: Towards, node: u32) -> Option<Offer>
     requires node { node < length graph.now.nodes }
     requires numbers { length numbers.now ≡ length graph.now.nodes }
@@ -64,7 +66,7 @@ fn offer_by_step(graph: &Graph, numbers: &[u32], towards: Towards, node: u32) ->
     }
 }
 
-/// What a node is worth at a claimed location.
+// What a node is worth at a claimed location.
 fn offer_by_rank(graph: &Graph, claimed: &LocSet, node: u32) -> Option<Offer>
     requires { node < length graph.now.nodes }
     ensures { result ≡ offer_by_rank graph.now claimed.now node }
@@ -76,7 +78,7 @@ fn offer_by_rank(graph: &Graph, claimed: &LocSet, node: u32) -> Option<Offer>
     }
 }
 
-/// Puts an offer, if there is one, behind the others of a node.
+// Puts an offer, if there is one, behind the others of a node.
 #[inline(always)]
 fn put(offers: &mut Vec<OfferList>, node: u32, offer: Option<Offer>) -> Result<(), AllocError>
     requires { node < length offers.old.items }

@@ -15,8 +15,8 @@ use input_output::NoMemory;
 use net_base::Net;
 use std::alloc::{AllocError, Global};
 
-/// Takes in what the next nodes of a run offer, as far as their numbers are no greater than a number. How many nodes
-/// are taken in then.
+// Takes in what the next nodes of a run offer, as far as their numbers are no greater than a number. How many nodes
+// are taken in then.
 fn take_in_upto(
     offers: &[OfferList],
     run: &[Numbered],
@@ -44,8 +44,8 @@ fn take_in_upto(
     Ok(next)
 }
 
-/// Whether offers are as low as a row wherever it has numbers. They are put in a row of their own, unless the other one has just
-/// them, as it has where all nodes of a run offer the same.
+// Whether offers are as low as a row wherever it has numbers. They are put in a row of their own, unless the other one has just
+// them, as it has where all nodes of a run offer the same.
 fn are_enough(own: &mut LowRow, offers: &[Offer], owed: &LowRow) -> Result<bool, AllocError>
     ensures { IfOk result (λ enough. IsTrue enough → (p n : ℕ) → IsTrue (has_upto owed.now.least.items p n) → IsTrue (is_offered offers.now p n)) }
 {
@@ -57,7 +57,7 @@ fn are_enough(own: &mut LowRow, offers: &[Offer], owed: &LowRow) -> Result<bool,
     Ok(own.is_as_low(owed))
 }
 
-/// Marks the nodes of a run that offer at least as well as each of its nodes that has no greater number.
+// Marks the nodes of a run that offer at least as well as each of its nodes that has no greater number.
 fn mark_matching(
     alloc: Global,
     offers: &[OfferList],

@@ -11,11 +11,13 @@ use std::alloc::{AllocError, Global};
 /// A node with its preference number.
 #[derive(Clone, Copy)]
 pub struct Numbered {
+    /// Its preference number.
     pub number: u32,
+    /// The number of the node, from 0.
     pub node: u32,
 }
 
-/// A node with its number.
+// A node with its number.
 fn with_number(numbers: &[u32], node: u32) -> Numbered
     requires { node < length numbers.now }
     ensures { result ≡ record { number = number_in numbers.now node; node = node } }
@@ -26,7 +28,7 @@ fn with_number(numbers: &[u32], node: u32) -> Numbered
     }
 }
 
-/// So many lists without nodes.
+// So many lists without nodes.
 fn no_nodes(alloc: Global, size: usize) -> Result<Vec<List<Numbered>>, AllocError>
     ensures { IfOk result (λ lists. lists.items ≡ replicate size []) }
 {

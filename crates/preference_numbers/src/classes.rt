@@ -26,7 +26,7 @@ pub fn firsts(alloc: Global, relation: &Relation, count: u32) -> Result<Rows, No
     Ok(firsts)
 }
 
-/// Whether no node with a lesser number stands as high. The list is for those that stand at least as high.
+// Whether no node with a lesser number stands as high. The list is for those that stand at least as high.
 fn is_first_of_class(relation: &Relation, p: u32, higher: &mut Vec<u32>) -> Result<bool, AllocError>
     requires { p < length relation.now.places }
     ensures { IfOk result (λ is. is ≡ is_first (has relation.now) p) }
@@ -41,7 +41,7 @@ fn is_first_of_class(relation: &Relation, p: u32, higher: &mut Vec<u32>) -> Resu
     Ok(true)
 }
 
-/// Whether q has a lesser number than p and stands as high.
+// Whether q has a lesser number than p and stands as high.
 fn is_earlier_equal(relation: &Relation, q: u32, p: u32) -> bool
     requires { p < length relation.now.places }
     ensures { result ≡ (nat_lt q p && (has relation.now p q && has relation.now q p)) }

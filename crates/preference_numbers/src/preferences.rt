@@ -41,7 +41,7 @@ pub fn infer(
     Ok(Prefs { of })
 }
 
-/// The number of each node where no two stand at one location, so that none stands lower.
+// The number of each node where no two stand at one location, so that none stands lower.
 fn numbers_apart(alloc: Global, net: &Net, graph: &Graph) -> Result<List<u32>, AllocError>
     ensures size { IfOk result (λ of. length of ≡ length graph.now.nodes) }
     ensures numbers { IfOk result (λ of. (n : ℕ) → n < length graph.now.nodes → number_in of n ≡ at_routers net.now graph.now (λ _. 100) n) }
@@ -54,7 +54,7 @@ fn numbers_apart(alloc: Global, net: &Net, graph: &Graph) -> Result<List<u32>, A
     Ok(of)
 }
 
-/// The number of each node, by the row of the first nodes of classes and the rows of the nodes of each location.
+// The number of each node, by the row of the first nodes of classes and the rows of the nodes of each location.
 fn numbers(
     alloc: Global,
     net: &Net,
@@ -77,7 +77,7 @@ fn numbers(
     Ok(of)
 }
 
-/// The number of a node: at a router 100 and one for each first node at its location that isn't in its row.
+// The number of a node: at a router 100 and one for each first node at its location that isn't in its row.
 fn number(
     net: &Net,
     graph: &Graph,

@@ -22,7 +22,7 @@ use net_base::{Loc, Net, known_net};
 use policy_base::{Case, Policy};
 use std::alloc::Global;
 
-/// Whether a permitted walk passes some router.
+// Whether a permitted walk passes some router.
 #[tactic(auto, using(crate::proofs::SomeRouter::none_more))]
 fn passes_some(net: &Net, told: &Told<'_>) -> bool
     ensures { result ≡ list_any (promises_in told.now).passes (numbers_below (length net.now.routers)) }
@@ -35,14 +35,14 @@ fn passes_some(net: &Net, told: &Told<'_>) -> bool
     false
 }
 
-/// Whether some router takes what peers announce.
+// Whether some router takes what peers announce.
 fn takes_some(net: &Net, case: &Case, told: &Told<'_>) -> bool
     ensures { result ≡ takes net.now case.now (promises_in told.now) }
 {
     case.external && passes_some(net, told)
 }
 
-/// A group of one case.
+// A group of one case.
 fn alone(
     alloc: Global,
     net: &Net,

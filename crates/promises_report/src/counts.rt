@@ -65,7 +65,7 @@ impl Counts {
     }
 }
 
-/// Whether a `from` names a location.
+// Whether a `from` names a location.
 fn names(from: FromSet, at: Loc) -> bool
     ensures { result ≡ names_in from at }
 {
@@ -75,7 +75,7 @@ fn names(from: FromSet, at: Loc) -> bool
     }
 }
 
-/// Whether the `from` of the statement with a number, if there is one, names a location.
+// Whether the `from` of the statement with a number, if there is one, names a location.
 fn is_named(policy: &Policy, number: u32, at: Loc) -> bool
     ensures { result ≡ is_named_by (plain_statement_at (policy_of policy.now) number) at }
 {
@@ -93,7 +93,7 @@ pub fn is_named_peer(net: &Net, policy: &Policy, number: u32, at: Loc) -> bool
     net.is_peer(at) && is_named(policy, number, at)
 }
 
-/// How many peers the `from` of the statement with a number names.
+// How many peers the `from` of the statement with a number names.
 fn named_peers(net: &Net, policy: &Policy, number: u32) -> u64
     ensures count { result ≡ count_by (is_named_in net.now (policy_of policy.now) number) (in_order net.now) }
     ensures within { result ≤ length net.now.routers + length net.now.peers }
@@ -107,7 +107,7 @@ fn named_peers(net: &Net, policy: &Policy, number: u32) -> u64
     count
 }
 
-/// How many of these are wanted.
+// How many of these are wanted.
 fn counted(standings: &[Option<Standing>], wanted: Wanted) -> u64
     ensures count { result ≡ count_by (is_wanted_in wanted) standings.now }
     ensures within { result ≤ length standings.now }
@@ -121,7 +121,7 @@ fn counted(standings: &[Option<Standing>], wanted: Wanted) -> u64
     count
 }
 
-/// How many sessions aren't claimed, in a case in which some peer could be: `from` names so many peers.
+// How many sessions aren't claimed, in a case in which some peer could be: `from` names so many peers.
 fn missed_sessions(named: u64, group: &Group) -> u64
     requires named { named ≤ 768 }
     requires sessions { length group.now.sessions ≤ 8192 }
@@ -135,7 +135,7 @@ fn missed_sessions(named: u64, group: &Group) -> u64
     counted(sessions, Wanted::Unclaimed)
 }
 
-/// The mark at a place, from 0; none past the end.
+// The mark at a place, from 0; none past the end.
 fn marked(marks: &[bool], place: u32) -> bool
     ensures { result ≡ slice_index_or marks.now place false }
 {
@@ -152,7 +152,7 @@ pub fn is_covered(external: bool, statement: u32, marks: &[bool]) -> bool
     external && statement > 0 && marked(marks, statement - 1)
 }
 
-/// How many peers an external case names.
+// How many peers an external case names.
 fn idle_peers(external: bool, named: u64) -> u64
     ensures count { result ≡ (if external then named else 0) }
     ensures within { result ≤ named }
@@ -160,7 +160,7 @@ fn idle_peers(external: bool, named: u64) -> u64
     if external { named } else { 0 }
 }
 
-/// How many of each kind a case has, whose group has no other, where `from` names so many peers.
+// How many of each kind a case has, whose group has no other, where `from` names so many peers.
 fn promised_counts(named: u64, case: &Case, group: &Group) -> Counts
     requires named { named ≤ 768 }
     requires routers { length group.now.routers ≤ 512 }

@@ -51,7 +51,7 @@ pub fn entry(standings: &[Option<Standing>], place: usize) -> Option<Standing>
     }
 }
 
-/// Whether two that are known differ.
+// Whether two that are known differ.
 fn differ(one: Option<Standing>, other: Option<Standing>) -> bool
     ensures { result ≡ differ_in one other }
 {
@@ -64,7 +64,7 @@ fn differ(one: Option<Standing>, other: Option<Standing>) -> bool
     }
 }
 
-/// Whether they differ at some place.
+// Whether they differ at some place.
 #[tactic(auto, using(crate::proofs::SomeRouter::none_more))]
 fn some_differ(one: &[Option<Standing>], other: &[Option<Standing>]) -> bool
     ensures { result ≡ list_any (differ_at one.now other.now) (numbers_below (length one.now)) }
@@ -79,14 +79,14 @@ fn some_differ(one: &[Option<Standing>], other: &[Option<Standing>]) -> bool
     false
 }
 
-/// Whether they agree where both are known.
+// Whether they agree where both are known.
 fn agree(one: &List<Option<Standing>>, other: &List<Option<Standing>>) -> bool
     ensures { result ≡ agree_in one.now other.now }
 {
     !some_differ(one.as_slice(), other.as_slice())
 }
 
-/// The one that is known, the first where both are.
+// The one that is known, the first where both are.
 fn either(one: Option<Standing>, other: Option<Standing>) -> Option<Standing>
     ensures { result ≡ option_or one other }
 {
@@ -96,7 +96,7 @@ fn either(one: Option<Standing>, other: Option<Standing>) -> Option<Standing>
     }
 }
 
-/// What one of them knows, at each place of the first.
+// What one of them knows, at each place of the first.
 fn known(
     alloc: Global,
     one: &[Option<Standing>],
@@ -155,7 +155,7 @@ impl Group {
     }
 }
 
-/// The place of the first group that it fits; how many there are where it fits none.
+// The place of the first group that it fits; how many there are where it fits none.
 fn place_for(groups: &[Group], group: &Group) -> usize
     ensures { result ≡ position_or_len (λ g. fits_in g group.now) groups.now }
 {

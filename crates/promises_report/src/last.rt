@@ -50,7 +50,7 @@ pub fn push_open(text: &mut Vec<u8>, part: OpenPart) -> Result<(), NoMemory>
     push_bytes(text, b"\n")
 }
 
-/// Adds a word and a number.
+// Adds a word and a number.
 fn push_count(text: &mut Vec<u8>, word: &[u8], count: u64) -> Result<(), NoMemory>
     ensures { OnOk result (text.new.items ≡ text.old.items ++ word.now ++ decimal count) }
 {
@@ -58,7 +58,7 @@ fn push_count(text: &mut Vec<u8>, word: &[u8], count: u64) -> Result<(), NoMemor
     push_number(text, count)
 }
 
-/// Adds how many lines of each kind the cases have.
+// Adds how many lines of each kind the cases have.
 #[tactic(auto, unfolding(crate::specs::Texts::kinds_text))]
 fn push_kinds(text: &mut Vec<u8>, counts: Counts) -> Result<(), NoMemory>
     ensures { OnOk result (text.new.items ≡ text.old.items ++ kinds_text counts) }
@@ -69,7 +69,7 @@ fn push_kinds(text: &mut Vec<u8>, counts: Counts) -> Result<(), NoMemory>
     push_count(text, b" unused ", counts.unused)
 }
 
-/// Adds how many lines stand after the cases.
+// Adds how many lines stand after the cases.
 #[tactic(auto, unfolding(crate::specs::Texts::places_text))]
 fn push_places(text: &mut Vec<u8>, uncarried: usize, parts: usize) -> Result<(), NoMemory>
     ensures { OnOk result (text.new.items ≡ text.old.items ++ places_text uncarried parts) }

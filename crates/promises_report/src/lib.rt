@@ -1,8 +1,24 @@
-//! What a policy promises for each of its cases while nothing has failed: found in the graph of the case, and its text. For `promises`.
+//! What a policy promises for each of its cases while nothing has failed, and its text: where the sources can be, the rank of
+//! each, who isn't claimed, and who only carries.
 //!
-//! For a case: where its sources can be, the rank of each, who isn't claimed, and who only carries. What is promised is said without a graph
-//! (`specs/{Claims,Promises}`): tops of the graph show it, it is kept for every prefix of the case, and every claimed source has an allowed
-//! path while nothing has failed. The compiler is unknown here.
+//! What is promised is said without a graph (`specs/Claims`, `specs/Promises`), and found in the graph of the case: its tops
+//! show it (`tops_tell_promises`). It is kept for every prefix of the case (`promises_are_kept`), and every claimed source
+//! has an allowed path while nothing has failed (`claimed_sources_have_ranks`).
+//!
+//! Cases stand together in the text by what all their lines say, and not by the lines themselves: a router is no source in
+//! the case whose origin it is, so the lines of two racks always differ. What is compared is how everybody stands who isn't
+//! an origin, and origins with origins (`Standing`). What one case leaves open another one may tell. So this is no relation
+//! that classes could be counted off by: a case joins the first cases that it fits, in the order of their numbers (`Group`,
+//! `told_of`). At worst each case is compared with each before it; a policy has at most 4,352 cases, and mostly few that
+//! differ. That no case is told otherwise than by itself is `groups_tell_of_cases`.
+//!
+//! Ranks are told once a statement, as the policy prints them and not as its source has them: the text is made of the policy
+//! alone, and two policies that mean the same read alike. What peers are believed in inside own prefixes is found by
+//! `own_space`, and the law `parts_are_what_is_taken` says what it is.
+//!
+//! `promises` alone needs it.
+//!
+//! It knows nothing of the compiler.
 #![tactic(auto)]
 
 mod case;

@@ -54,7 +54,7 @@ pub fn push_line(text: &mut Vec<u8>, head: &[u8], names: &[u8], tail: &[u8]) -> 
     push_bytes(text, tail)
 }
 
-/// Adds a router, where a line tells of it.
+// Adds a router, where a line tells of it.
 #[tactic(auto, unfolding(crate::specs::Texts::wanted_router))]
 fn push_router(
     text: &mut Vec<u8>,
@@ -71,7 +71,7 @@ fn push_router(
     push_next(text, net, router)
 }
 
-/// Adds the routers of which a line tells.
+// Adds the routers of which a line tells.
 fn push_routers(
     text: &mut Vec<u8>,
     net: &Net,
@@ -86,7 +86,7 @@ fn push_routers(
     Ok(())
 }
 
-/// Adds a line of routers.
+// Adds a line of routers.
 fn push_router_line(
     alloc: Global,
     text: &mut Vec<u8>,
@@ -103,7 +103,7 @@ fn push_router_line(
     push_line(text, head, &names, tail)
 }
 
-/// The session at a place, if there is one.
+// The session at a place, if there is one.
 fn session_at(sessions: &[(Loc, Loc)], place: usize) -> Option<(Loc, Loc)>
     ensures { result ≡ slice_get sessions.now place }
 {
@@ -113,7 +113,7 @@ fn session_at(sessions: &[(Loc, Loc)], place: usize) -> Option<(Loc, Loc)>
     }
 }
 
-/// Adds the router and the peer of a session, if there is one.
+// Adds the router and the peer of a session, if there is one.
 fn push_session_name(
     text: &mut Vec<u8>,
     net: &Net,
@@ -130,7 +130,7 @@ fn push_session_name(
     }
 }
 
-/// Adds a session, where a line tells of it.
+// Adds a session, where a line tells of it.
 #[tactic(auto, unfolding(crate::specs::Texts::wanted_session))]
 fn push_session(
     text: &mut Vec<u8>,
@@ -148,7 +148,7 @@ fn push_session(
     push_session_name(text, net, session_at(sessions, place))
 }
 
-/// Adds the sessions of which a line tells.
+// Adds the sessions of which a line tells.
 fn push_sessions(
     text: &mut Vec<u8>,
     net: &Net,
@@ -164,7 +164,7 @@ fn push_sessions(
     Ok(())
 }
 
-/// Adds a line of sessions.
+// Adds a line of sessions.
 fn push_session_line(
     alloc: Global,
     text: &mut Vec<u8>,
@@ -182,7 +182,7 @@ fn push_session_line(
     push_line(text, head, &names, tail)
 }
 
-/// The end of the line of a rank.
+// The end of the line of a rank.
 #[tactic(auto, unfolding(crate::specs::Texts::rank_tail))]
 fn tail_of(alloc: Global, rank: u64) -> Result<Vec<u8>, NoMemory>
     ensures { IfOk result (λ tail. tail.items ≡ rank_tail rank) }
@@ -194,7 +194,7 @@ fn tail_of(alloc: Global, rank: u64) -> Result<Vec<u8>, NoMemory>
     Ok(tail)
 }
 
-/// Adds the line of the routers whose best rank is 1 more than `place`.
+// Adds the line of the routers whose best rank is 1 more than `place`.
 #[tactic(auto, unfolding(crate::specs::Texts::router_source))]
 fn push_router_source(
     alloc: Global,
@@ -218,7 +218,7 @@ fn push_router_source(
     )
 }
 
-/// Adds the line of the sessions whose best rank is 1 more than `place`.
+// Adds the line of the sessions whose best rank is 1 more than `place`.
 #[tactic(auto, unfolding(crate::specs::Texts::session_source))]
 fn push_session_source(
     alloc: Global,
@@ -245,7 +245,7 @@ fn push_session_source(
     )
 }
 
-/// Adds the lines of the routers that are claimed, by rank, of so many.
+// Adds the lines of the routers that are claimed, by rank, of so many.
 fn push_router_sources(
     alloc: Global,
     text: &mut Vec<u8>,
@@ -261,7 +261,7 @@ fn push_router_sources(
     Ok(())
 }
 
-/// Adds the lines of the sessions that are claimed, by rank, of so many.
+// Adds the lines of the sessions that are claimed, by rank, of so many.
 fn push_session_sources(
     alloc: Global,
     text: &mut Vec<u8>,
@@ -279,7 +279,7 @@ fn push_session_sources(
     Ok(())
 }
 
-/// Adds a peer that the `from` of the statement with a number names.
+// Adds a peer that the `from` of the statement with a number names.
 #[tactic(auto, unfolding(crate::specs::Texts::named_peer))]
 fn push_peer(
     text: &mut Vec<u8>,
@@ -296,7 +296,7 @@ fn push_peer(
     push_next(text, net, at)
 }
 
-/// Adds the peers that the `from` of the statement with a number names.
+// Adds the peers that the `from` of the statement with a number names.
 fn push_peers(text: &mut Vec<u8>, net: &Net, policy: &Policy, number: u32) -> Result<(), NoMemory>
     ensures { OnOk result (text.new.items ≡ text.old.items ++ flat_map (named_peer net.now (policy_of policy.now) number) (in_order net.now)) }
 {
@@ -306,7 +306,7 @@ fn push_peers(text: &mut Vec<u8>, net: &Net, policy: &Policy, number: u32) -> Re
     Ok(())
 }
 
-/// Adds the line of the peers that an external case names.
+// Adds the line of the peers that an external case names.
 fn push_idle(
     alloc: Global,
     text: &mut Vec<u8>,
@@ -324,7 +324,7 @@ fn push_idle(
     push_line(text, b"unclaimed peer", &names, b"\n")
 }
 
-/// Adds the line of the cases of a group.
+// Adds the line of the cases of a group.
 #[tactic(auto, unfolding(crate::specs::Texts::case_line))]
 fn push_cases(text: &mut Vec<u8>, group: &Group) -> Result<(), NoMemory>
     ensures { OnOk result (text.new.items ≡ text.old.items ++ case_line group.now) }
@@ -336,7 +336,7 @@ fn push_cases(text: &mut Vec<u8>, group: &Group) -> Result<(), NoMemory>
     push_bytes(text, b"\n")
 }
 
-/// Adds the line of their prefixes.
+// Adds the line of their prefixes.
 #[tactic(auto, unfolding(crate::specs::Texts::prefix_line))]
 fn push_prefixes(text: &mut Vec<u8>, group: &Group) -> Result<(), NoMemory>
     ensures { OnOk result (text.new.items ≡ text.old.items ++ prefix_line group.now) }
@@ -346,7 +346,7 @@ fn push_prefixes(text: &mut Vec<u8>, group: &Group) -> Result<(), NoMemory>
     push_bytes(text, b"\n")
 }
 
-/// Adds the line of their origins.
+// Adds the line of their origins.
 #[tactic(auto, unfolding(crate::specs::Texts::origin_line))]
 fn push_origins(text: &mut Vec<u8>, group: &Group) -> Result<(), NoMemory>
     ensures { OnOk result (text.new.items ≡ text.old.items ++ origin_line group.now) }
@@ -356,7 +356,7 @@ fn push_origins(text: &mut Vec<u8>, group: &Group) -> Result<(), NoMemory>
     push_bytes(text, b"\n")
 }
 
-/// Adds the lines of the cases of a group, of their prefixes and of their origins.
+// Adds the lines of the cases of a group, of their prefixes and of their origins.
 fn push_head(text: &mut Vec<u8>, group: &Group) -> Result<(), NoMemory>
     ensures { OnOk result (text.new.items ≡ text.old.items ++ head_lines group.now) }
 {
@@ -365,7 +365,7 @@ fn push_head(text: &mut Vec<u8>, group: &Group) -> Result<(), NoMemory>
     push_origins(text, group)
 }
 
-/// Adds the line of the routers that aren't claimed.
+// Adds the line of the routers that aren't claimed.
 #[tactic(auto, unfolding(crate::specs::Texts::unclaimed_routers))]
 fn push_unclaimed_routers(
     alloc: Global,
@@ -387,7 +387,7 @@ fn push_unclaimed_routers(
     )
 }
 
-/// Adds the line of the sessions that aren't claimed.
+// Adds the line of the sessions that aren't claimed.
 #[tactic(auto, unfolding(crate::specs::Texts::unclaimed_sessions))]
 fn push_unclaimed_sessions(
     alloc: Global,
@@ -411,7 +411,7 @@ fn push_unclaimed_sessions(
     )
 }
 
-/// Adds the line of the routers that carry routes without a claim.
+// Adds the line of the routers that carry routes without a claim.
 #[tactic(auto, unfolding(crate::specs::Texts::transit_line))]
 fn push_transit(alloc: Global, text: &mut Vec<u8>, net: &Net, group: &Group) -> Result<(), NoMemory>
     ensures { OnOk result (text.new.items ≡ text.old.items ++ transit_line net.now group.now) }
@@ -428,7 +428,7 @@ fn push_transit(alloc: Global, text: &mut Vec<u8>, net: &Net, group: &Group) -> 
     )
 }
 
-/// Adds the lines of who isn't claimed, and who carries routes without a claim.
+// Adds the lines of who isn't claimed, and who carries routes without a claim.
 fn push_others(
     alloc: Global,
     text: &mut Vec<u8>,
@@ -446,7 +446,7 @@ fn push_others(
     push_transit(alloc, text, net, group)
 }
 
-/// Adds the lines of the sources by rank, of so many.
+// Adds the lines of the sources by rank, of so many.
 fn push_sources(
     alloc: Global,
     text: &mut Vec<u8>,
@@ -462,7 +462,7 @@ fn push_sources(
     push_session_sources(alloc, text, net, sessions, group, ranks)
 }
 
-/// Adds what is promised for the cases of a group, or that no prefix of it is left.
+// Adds what is promised for the cases of a group, or that no prefix of it is left.
 fn push_told(
     alloc: Global,
     text: &mut Vec<u8>,
@@ -484,7 +484,7 @@ fn push_told(
     push_others(alloc, text, net, policy, sessions, group)
 }
 
-/// Adds the line of the origins at which no path ends.
+// Adds the line of the origins at which no path ends.
 #[tactic(auto, unfolding(crate::specs::Texts::unused_line))]
 fn push_unused(alloc: Global, text: &mut Vec<u8>, net: &Net, group: &Group) -> Result<(), NoMemory>
     ensures { OnOk result (text.new.items ≡ text.old.items ++ unused_line net.now group.now) }

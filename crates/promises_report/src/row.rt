@@ -17,7 +17,7 @@ use net_base::{List, Loc, Net};
 use policy_base::Case;
 use std::alloc::Global;
 
-/// How a router stands as a source; none where it's an origin.
+// How a router stands as a source; none where it's an origin.
 #[tactic(auto, unfolding(crate::specs::Standings::as_source))]
 fn as_source(case: &Case, told: &Told<'_>, router: Loc) -> Option<Standing>
     ensures { result ≡ as_source_in case.now (promises_in told.now) router }
@@ -28,7 +28,7 @@ fn as_source(case: &Case, told: &Told<'_>, router: Loc) -> Option<Standing>
     Some(Standing::new(told.rank(router, None), told.passes(router)))
 }
 
-/// How a router stands as an origin; none where it isn't one.
+// How a router stands as an origin; none where it isn't one.
 #[tactic(auto, unfolding(crate::specs::Standings::as_origin))]
 fn as_origin(case: &Case, told: &Told<'_>, router: Loc) -> Option<Standing>
     ensures { result ≡ as_origin_in case.now (promises_in told.now) router }
@@ -39,7 +39,7 @@ fn as_origin(case: &Case, told: &Told<'_>, router: Loc) -> Option<Standing>
     Some(Standing::of_origin(told.passes(router)))
 }
 
-/// How a session stands.
+// How a session stands.
 #[tactic(auto, unfolding(crate::specs::Standings::as_session))]
 fn as_session(told: &Told<'_>, session: (Loc, Loc)) -> Option<Standing>
     ensures { result ≡ as_session_in (promises_in told.now) session }
@@ -79,7 +79,7 @@ pub fn origins(
     Ok(list)
 }
 
-/// How each of these sessions stands.
+// How each of these sessions stands.
 fn all_sessions(
     alloc: Global,
     told: &Told<'_>,

@@ -88,7 +88,7 @@ impl Standing {
         }
     }
 
-    /// Whether it's claimed with this best rank.
+    // Whether it's claimed with this best rank.
     fn is_source(self, rank: u64) -> bool
         ensures { result ≡ is_source_in rank self }
     {
@@ -101,43 +101,49 @@ impl Standing {
         }
     }
 
+    // Whether it's claimed, with any best rank.
     fn is_claimed(self) -> bool
         ensures { result ≡ is_claimed_in self }
     {
         matches!(self, Standing::Source(_))
     }
 
+    // Whether it's a place that isn't claimed, whether it carries or not.
     fn is_unclaimed(self) -> bool
         ensures { result ≡ is_unclaimed_in self }
     {
         matches!(self, Standing::Transit) || matches!(self, Standing::Unclaimed)
     }
 
+    // Whether it isn't claimed, and carries.
     fn is_transit(self) -> bool
         ensures { result ≡ is_transit_in self }
     {
         matches!(self, Standing::Transit)
     }
 
+    // Whether it isn't claimed, and doesn't carry.
     fn is_left(self) -> bool
         ensures { result ≡ is_left_in self }
     {
         matches!(self, Standing::Unclaimed)
     }
 
+    // Whether it's an origin at which paths end.
     fn is_used(self) -> bool
         ensures { result ≡ is_used_in self }
     {
         matches!(self, Standing::Used)
     }
 
+    // Whether it's an origin at which no path ends.
     fn is_unused(self) -> bool
         ensures { result ≡ is_unused_in self }
     {
         matches!(self, Standing::Unused)
     }
 
-    /// Whether a line names it.
+    // Whether a line names it.
     fn is_meant(self, wanted: Wanted) -> bool
         ensures { result ≡ is_meant_in wanted self }
     {

@@ -32,7 +32,7 @@ use policy_text::push_ranks;
 use std::alloc::Global;
 use text_parts::{push_bytes, push_number};
 
-/// What is told of cases.
+// What is told of cases.
 #[derive(Drop)]
 struct ToldCases {
     /// Those that say the same stand together.
@@ -42,7 +42,7 @@ struct ToldCases {
     taking: Vec<OpenCase>,
 }
 
-/// Notes a case in which some router takes what peers announce.
+// Notes a case in which some router takes what peers announce.
 fn note_taking(
     taking: &mut Vec<OpenCase>,
     number: usize,
@@ -57,7 +57,7 @@ fn note_taking(
     Ok(())
 }
 
-/// What is told of all cases. The sessions are those of the network, and the marks tell which statements are covered.
+// What is told of all cases. The sessions are those of the network, and the marks tell which statements are covered.
 fn tell_cases(
     alloc: Global,
     net: &Net,
@@ -91,7 +91,7 @@ fn tell_cases(
     })
 }
 
-/// Adds a group, where it's of the statement with a number.
+// Adds a group, where it's of the statement with a number.
 #[tactic(auto, unfolding(crate::specs::Texts::own_text))]
 fn push_own(
     alloc: Global,
@@ -114,7 +114,7 @@ fn push_own(
     push_group(alloc, text, net, policy, sessions, marks, group, ranks)
 }
 
-/// Adds the groups of the statement with a number, which has so many ranks.
+// Adds the groups of the statement with a number, which has so many ranks.
 fn push_groups(
     alloc: Global,
     text: &mut Vec<u8>,
@@ -138,7 +138,7 @@ fn push_groups(
     Ok(())
 }
 
-/// The line of a statement, and those of its ranks.
+// The line of a statement, and those of its ranks.
 #[tactic(auto, unfolding(crate::specs::Texts::statement_head))]
 fn head_of(alloc: Global, net: &Net, number: u32, ranked: &Ranked) -> Result<Vec<u8>, NoMemory>
     ensures { IfOk result (λ head. head.items ≡ statement_head net.now number (ranking_of ranked.now)) }
@@ -151,7 +151,7 @@ fn head_of(alloc: Global, net: &Net, number: u32, ranked: &Ranked) -> Result<Vec
     Ok(head)
 }
 
-/// Adds a statement, where it has a case: its ranks, and its groups.
+// Adds a statement, where it has a case: its ranks, and its groups.
 #[tactic(auto, unfolding(crate::specs::Texts::statement_text))]
 fn push_statement(
     alloc: Global,
@@ -177,7 +177,7 @@ fn push_statement(
     push_line(text, &head, &own, b"")
 }
 
-/// Adds all statements that have cases.
+// Adds all statements that have cases.
 fn push_statements(
     alloc: Global,
     text: &mut Vec<u8>,
@@ -209,7 +209,7 @@ fn push_statements(
     Ok(())
 }
 
-/// Adds the originated prefixes that no statement governs, each after a space.
+// Adds the originated prefixes that no statement governs, each after a space.
 fn push_bare(text: &mut Vec<u8>, policy: &Policy, origins: &[Origin]) -> Result<(), NoMemory>
     ensures { OnOk result (text.new.items ≡ text.old.items ++ flat_map (uncarried_prefix (policy_of policy.now)) origins.now) }
 {
@@ -219,7 +219,7 @@ fn push_bare(text: &mut Vec<u8>, policy: &Policy, origins: &[Origin]) -> Result<
     Ok(())
 }
 
-/// Adds the line of the originated prefixes that no statement governs.
+// Adds the line of the originated prefixes that no statement governs.
 fn push_bare_line(
     alloc: Global,
     text: &mut Vec<u8>,
@@ -233,7 +233,7 @@ fn push_bare_line(
     push_line(text, b"uncarried", &prefixes, b"\n")
 }
 
-/// How many originated prefixes no statement governs.
+// How many originated prefixes no statement governs.
 fn uncarried(policy: &Policy, origins: &[Origin]) -> usize
     ensures { result ≡ count_by (is_uncarried_by (policy_of policy.now)) origins.now }
 {
@@ -246,7 +246,7 @@ fn uncarried(policy: &Policy, origins: &[Origin]) -> usize
     count
 }
 
-/// Adds the lines of what peers are believed in inside the network's own space.
+// Adds the lines of what peers are believed in inside the network's own space.
 fn push_parts(text: &mut Vec<u8>, parts: &[OpenPart]) -> Result<(), NoMemory>
     ensures { OnOk result (text.new.items ≡ text.old.items ++ flat_map open_line parts.now) }
 {
@@ -256,7 +256,7 @@ fn push_parts(text: &mut Vec<u8>, parts: &[OpenPart]) -> Result<(), NoMemory>
     Ok(())
 }
 
-/// Adds what is said after the cases.
+// Adds what is said after the cases.
 fn push_last(
     alloc: Global,
     text: &mut Vec<u8>,

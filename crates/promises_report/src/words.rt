@@ -21,7 +21,7 @@ use policy_base::{Case, Policy, statement_at};
 use std::alloc::Global;
 use text_parts::{push_bytes, push_name, push_number, push_pattern};
 
-/// What stands behind commas, as a word behind a space: the first comma gives way.
+// What stands behind commas, as a word behind a space: the first comma gives way.
 fn word_of(alloc: Global, joined: &[u8]) -> Result<List<u8>, NoMemory>
     ensures { IfOk result (λ word. word ≡ word_in joined.now) }
 {
@@ -44,7 +44,7 @@ pub fn number_word(alloc: Global, number: usize) -> Result<List<u8>, NoMemory>
     Ok(List::from_vec(word))
 }
 
-/// Adds a pattern behind a comma.
+// Adds a pattern behind a comma.
 #[tactic(auto, unfolding(crate::specs::Groups::comma_pattern))]
 fn push_next_pattern(text: &mut Vec<u8>, pattern: Pattern) -> Result<(), NoMemory>
     ensures { OnOk result (text.new.items ≡ text.old.items ++ comma_pattern pattern) }
@@ -53,7 +53,7 @@ fn push_next_pattern(text: &mut Vec<u8>, pattern: Pattern) -> Result<(), NoMemor
     push_pattern(text, pattern)
 }
 
-/// Adds patterns, each behind a comma.
+// Adds patterns, each behind a comma.
 fn push_patterns(text: &mut Vec<u8>, patterns: &[Pattern]) -> Result<(), NoMemory>
     ensures { OnOk result (text.new.items ≡ text.old.items ++ flat_map comma_pattern patterns.now) }
 {
@@ -63,7 +63,7 @@ fn push_patterns(text: &mut Vec<u8>, patterns: &[Pattern]) -> Result<(), NoMemor
     Ok(())
 }
 
-/// Adds prefixes, each behind a comma.
+// Adds prefixes, each behind a comma.
 fn push_prefixes(text: &mut Vec<u8>, prefixes: &[Prefix]) -> Result<(), NoMemory>
     ensures { OnOk result (text.new.items ≡ text.old.items ++ flat_map comma_pattern (map only prefixes.now)) }
 {
@@ -73,7 +73,7 @@ fn push_prefixes(text: &mut Vec<u8>, prefixes: &[Prefix]) -> Result<(), NoMemory
     Ok(())
 }
 
-/// Adds the prefixes of a case or, where it is external, the patterns of its statement, each behind a comma.
+// Adds the prefixes of a case or, where it is external, the patterns of its statement, each behind a comma.
 fn push_governed(text: &mut Vec<u8>, policy: &Policy, case: &Case) -> Result<(), NoMemory>
     ensures { OnOk result (text.new.items ≡ text.old.items ++ flat_map comma_pattern (patterns_of (policy_of policy.now) case.now)) }
 {
@@ -95,7 +95,7 @@ pub fn prefixes_word(alloc: Global, policy: &Policy, case: &Case) -> Result<List
     word_of(alloc, &joined)
 }
 
-/// Adds the name of a location, where the network has it.
+// Adds the name of a location, where the network has it.
 fn push_location(text: &mut Vec<u8>, net: &Net, at: Loc) -> Result<(), NoMemory>
     ensures { OnOk result (text.new.items ≡ text.old.items ++ name_of net.now at) }
 {
@@ -106,7 +106,7 @@ fn push_location(text: &mut Vec<u8>, net: &Net, at: Loc) -> Result<(), NoMemory>
     }
 }
 
-/// Adds a router behind a comma, where it's an origin.
+// Adds a router behind a comma, where it's an origin.
 #[tactic(auto, unfolding(crate::specs::Groups::comma_origin))]
 fn push_origin(text: &mut Vec<u8>, net: &Net, case: &Case, router: Loc) -> Result<(), NoMemory>
     ensures { OnOk result (text.new.items ≡ text.old.items ++ comma_origin net.now case.now router) }
@@ -118,7 +118,7 @@ fn push_origin(text: &mut Vec<u8>, net: &Net, case: &Case, router: Loc) -> Resul
     push_location(text, net, router)
 }
 
-/// Adds the routers that are origins, each behind a comma.
+// Adds the routers that are origins, each behind a comma.
 fn push_origins(text: &mut Vec<u8>, net: &Net, case: &Case) -> Result<(), NoMemory>
     ensures { OnOk result (text.new.items ≡ text.old.items ++ flat_map (comma_origin net.now case.now) (numbers_below (length net.now.routers))) }
 {

@@ -1,4 +1,13 @@
-//! The program.
+//! The program: `main`, which gives the words, the files and the two standard streams to `run`, and ends with the number of
+//! its status.
+//!
+//! Words that can't be read as text are no command, so they end as a usage fault does, with status 2. Where memory is refused
+//! before the run begins, the program ends with status 6, as a run does that finds none.
+//!
+//! Nothing is decided here. What the program writes, and when it ends with which status, are clauses of `run` in
+//! `propane_run`.
+//!
+//! It knows nothing of what a command does.
 #![tactic(auto)]
 
 use input_output::{FileInputs, OutSink};
@@ -7,7 +16,7 @@ use std::io::ErrorKind;
 use std::process::ExitCode;
 use std::{env, io};
 
-/// The words after the program's name.
+// The words after the program's name.
 fn words_given(rt: &HostRuntime) -> io::Result<Vec<String>> {
     let mut words = Vec::new(rt.alloc());
     for word in env::args(rt)?.skip(1) {

@@ -96,8 +96,8 @@ pub enum Command {
 }
 
 impl Command {
-    /// The command that a word names, with what the words after it say besides names; None where one of them says nothing of
-    /// the kind. How many there are isn't asked here.
+    // The command that a word names, with what the words after it say besides names; None where one of them says nothing of
+    // the kind. How many there are isn't asked here.
     fn of(topic: Topic, rest: &[String]) -> Option<Command>
         ensures { result ≡ command_of topic (map string_bytes rest.now) }
     {
@@ -152,7 +152,7 @@ impl Command {
         }
     }
 
-    /// How many words follow its names: the number of a sample, a prefix, the number of a stage, or the word of a command.
+    // How many words follow its names: the number of a sample, a prefix, the number of a stage, or the word of a command.
     fn other_words(&self) -> usize
         ensures { result ≡ other_words self.now }
     {

@@ -1,4 +1,27 @@
-//! The top call.
+//! The top call: which words are which command, which job that is, and what a run promises.
+//!
+//! `run` takes the words after the program's name, the inputs and two sinks. The first word names the command, and the names
+//! of its inputs follow it: so a command is known by its word and by how many names it reads (`Command`, which owns nothing
+//! and is copied). Its inputs are read in order, its job is done on their bytes, and what it comes to is delivered.
+//! `specs/Words` says which words are a command, `specs/Run` what a job says of bytes, `specs/Clauses` and `specs/Ends` what
+//! the clauses of `run` are made of.
+//!
+//! The clauses name no command but `compile`, whose claim a reader is to see in full (`right`): the text that was written
+//! spells a configuration that keeps the policy. The claim names no evidence. That evidence passes for what was written is
+//! said beside it, by what `compile` promises. What each command promises is data of the command (`Promised`): it says for
+//! each command and status what the sink has taken. `EndsRight` says where a command succeeds, fails or refuses, and what it
+//! was asked about is said by command (`IsFor`): the inputs of `replay` must spell a scenario, too, before a refusal can be
+//! told. So a further command changes no clause. A command ends as done, refused or failing only where `Promised` lists that
+//! for it. Which line a failing check gives is in the verdict, so `ends` says the status alone.
+//!
+//! Each sink is spoken of only where something is to go to it: where a command is to refuse, `ends` asks for a calm error
+//! output, and otherwise for a calm output; `complete` delivers. The clause `whole` is the strongest of those on what is
+//! written, and the others follow from it. So it stays, though no caller in the repository cites it.
+//!
+//! The laws of a run are proved for any job: that what it says of bytes has one of a few forms and is one thing
+//! (`commands_say_one_thing`, `told_texts_come_to_one_thing`).
+//!
+//! It knows nothing of files.
 #![tactic(auto)]
 
 ghost use Rattle.std.specs.Prelude.{◌≡◌, ◌≢◌, ◌⊎◌, ◌≤◌, ℕ, List, Some, None, length, map, string_bytes};

@@ -1,9 +1,17 @@
-//! Graphs that are faithful to one case, and the quotient of a graph: laws without code.
+//! The laws of graphs that are faithful to one case, and of the quotient of a graph. There is no code.
 //!
-//! Faithful graphs of one case follow each other step by step, so numbers exist on one exactly where they exist on every other: the refusal
-//! for want of numbers speaks of every such graph. The quotient joins nodes that nothing onward tells apart. It is faithful again, any two
-//! of its nodes at a location are told apart, a graph has one, and every faithful graph of the case maps onto it. How a quotient is found is
-//! unknown here.
+//! Faithful graphs of one case follow each other step by step (`faithful_graphs_are_alike`), so numbers exist on one exactly
+//! where they exist on every other (`numbers_carry_over`). So a refusal for want of numbers speaks of every such graph, and
+//! evidence over one graph is evidence over another (`evidence_carries_over`). So numbers may be sought on the smallest of
+//! them, and no policy changes its verdict by it.
+//!
+//! The quotient joins nodes of one location that no path onward tells apart: every list of locations can be followed from
+//! both or from neither, and ends in equal ranks. It is faithful again (`quotients_are_faithful`). Any two of its nodes at a
+//! location are told apart (`quotients_are_reduced`). A graph has one quotient (`quotients_are_one`), and every faithful
+//! graph of the case maps onto it (`faithful_graphs_map_onto_reduced_ones`). The path that tells two nodes apart is shorter
+//! than the quotient has nodes.
+//!
+//! It knows nothing of the compiler, or of how a quotient is found.
 #![tactic(auto)]
 
 mod faithful;

@@ -5,8 +5,8 @@ ghost use Rattle.reach_prune.specs.Searches.{AreLists, IsReached, is_marked};
 use bit_rows::NodeList;
 use std::alloc::{AllocError, Global};
 
-/// A search that has come some way: the nodes that are marked, and those of them whose neighbours it
-/// has not come to yet.
+// A search that has come some way: the nodes that are marked, and those of them whose neighbours it
+// has not come to yet.
 #[derive(Drop)]
 struct Search {
     marks: Vec<bool>,
@@ -16,7 +16,7 @@ struct Search {
 impl Search {
     ghost use Rattle.reach_prune.specs.Searches.{Visits, is_among};
 
-    /// A search among so many nodes that has come to none.
+    // A search among so many nodes that has come to none.
     fn new(alloc: Global, size: usize) -> Result<Search, AllocError>
         ensures marks { IfOk result (λ s. s.marks.items ≡ replicate size false) }
         ensures waiting { IfOk result (λ s. s.waiting.items ≡ []) }
@@ -27,7 +27,7 @@ impl Search {
         })
     }
 
-    /// Comes to a node.
+    // Comes to a node.
     fn visit(&mut self, node: u32) -> Result<(), AllocError>
         requires { node < vec_len self.old.marks }
         ensures { OnOk result (Visits (λ n. node == n) self.old self.new) }
@@ -39,7 +39,7 @@ impl Search {
         Ok(())
     }
 
-    /// Comes to some nodes, one after another.
+    // Comes to some nodes, one after another.
     fn visit_each(&mut self, nodes: &[u32]) -> Result<(), AllocError>
         requires { All (λ n. n < vec_len self.old.marks) nodes.now }
         ensures { OnOk result (Visits (is_among nodes.now) self.old self.new) }

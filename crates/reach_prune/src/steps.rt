@@ -30,7 +30,7 @@ impl Way {
         }
     }
 
-    /// The ends of a step in the order in which it is followed.
+    // The ends of a step in the order in which it is followed.
     fn ends(self, step: (u32, u32)) -> (u32, u32)
         ensures { result ≡ ends self step }
     {
@@ -55,7 +55,7 @@ pub fn neighbours(alloc: Global, graph: &Graph, way: Way) -> Result<Vec<NodeList
     Ok(lists)
 }
 
-/// How many steps lead from each node this way: the room that its list of neighbours needs.
+// How many steps lead from each node this way: the room that its list of neighbours needs.
 fn step_counts(alloc: Global, graph: &Graph, way: Way) -> Result<Vec<u32>, AllocError>
     ensures { IfOk result (λ counts. length counts.items ≡ length graph.now.nodes) }
 {

@@ -13,6 +13,7 @@ use std::alloc::{AllocError, Global};
 /// Rows of what is found from each node, and the nodes of the present search whose neighbours it has not come to yet.
 #[derive(Drop)]
 pub struct Sweep {
+    /// A row for each node, with a bit for each node to which the searches so far lead from it.
     pub rows: Rows,
     waiting: Vec<u32>,
 }
@@ -30,7 +31,7 @@ impl Sweep {
         })
     }
 
-    /// Comes to a node in the search from another: takes its row over if that is finished.
+    // Comes to a node in the search from another: takes its row over if that is finished.
     fn come_to(&mut self, node: u32, next: u32, is_finished: bool) -> Result<(), AllocError>
         requires node { node < self.old.rows.count }
         requires next { next < self.old.rows.count }

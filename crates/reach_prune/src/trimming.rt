@@ -35,7 +35,7 @@ pub fn kept(alloc: Global, graph: &Graph, marks: &[bool]) -> Result<Graph, NoMem
     Ok(Graph::new(nodes, starts, steps))
 }
 
-/// Marks the nodes from which a node with a rank can be reached.
+// Marks the nodes from which a node with a rank can be reached.
 fn can_be_ranked(alloc: Global, graph: &Graph) -> Result<Vec<bool>, NoMemory>
     ensures size { IfOk result (λ marks. length marks.items ≡ length graph.now.nodes) }
     ensures kept { IfOk result (λ marks. (n : ℕ) → n < length graph.now.nodes → IsTrue (is_marked marks.items n) ↔ CanBeRanked graph.now n) }
@@ -45,7 +45,7 @@ fn can_be_ranked(alloc: Global, graph: &Graph) -> Result<Vec<bool>, NoMemory>
     Ok(marks)
 }
 
-/// The nodes with a rank.
+// The nodes with a rank.
 fn ranked_nodes(alloc: Global, graph: &Graph) -> Result<Vec<u32>, AllocError>
     ensures nodes { IfOk result (λ ranked. All (λ n. n < length graph.now.nodes) ranked.items) }
     ensures ranked { IfOk result (λ ranked. (n : ℕ) → is_among ranked.items n ≡ is_some (rank_at graph.now n)) }
@@ -60,7 +60,7 @@ fn ranked_nodes(alloc: Global, graph: &Graph) -> Result<Vec<u32>, AllocError>
     Ok(ranked)
 }
 
-/// The new number of each node that is kept.
+// The new number of each node that is kept.
 fn new_numbers(alloc: Global, kept: &[bool]) -> Result<Vec<Option<u32>>, AllocError>
     requires { length kept.now ≤ MAX_NODES }
     ensures size { IfOk result (λ numbers. length numbers.items ≡ length kept.now) }
@@ -79,7 +79,7 @@ fn new_numbers(alloc: Global, kept: &[bool]) -> Result<Vec<Option<u32>>, AllocEr
     Ok(numbers)
 }
 
-/// The nodes that are kept.
+// The nodes that are kept.
 fn nodes_kept(alloc: Global, nodes: &[Node], kept: &[bool]) -> Result<List<Node>, AllocError>
     requires { length nodes.now ≡ length kept.now }
     ensures { IfOk result (λ list. list ≡ nodes_kept_of (is_marked kept.now) 0 nodes.now) }
@@ -93,7 +93,7 @@ fn nodes_kept(alloc: Global, nodes: &[Node], kept: &[bool]) -> Result<List<Node>
     Ok(list)
 }
 
-/// The new numbers of the starts that are kept.
+// The new numbers of the starts that are kept.
 fn starts_kept(
     alloc: Global,
     starts: &[u32],
@@ -111,7 +111,7 @@ fn starts_kept(
     Ok(list)
 }
 
-/// The steps both of whose ends are kept, with the new numbers.
+// The steps both of whose ends are kept, with the new numbers.
 fn steps_kept(
     alloc: Global,
     steps: &[(u32, u32)],
@@ -129,7 +129,7 @@ fn steps_kept(
     Ok(list)
 }
 
-/// The step with the new numbers of its ends, where both are kept.
+// The step with the new numbers of its ends, where both are kept.
 fn step_kept(step: (u32, u32), numbers: &[Option<u32>]) -> Option<(u32, u32)>
     requires from { step.0 < length numbers.now }
     requires to { step.1 < length numbers.now }

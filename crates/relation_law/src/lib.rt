@@ -1,10 +1,26 @@
-//! The rules for the nodes of a graph as a relation: laws without code.
+//! The rules for the nodes of a graph as a relation between them: its greatest one, the rounds that find it, the numbers that it gives, and
+//! what lines of removed pairs show; no code.
 //!
-//! A node is at least another where it may take its place in everybody's route behind it. The greatest such relation is what is left when
-//! rounds take no more pairs away (`specs/Rounds`). Where it is total, the sizes of its rows give numbers that meet the rules, and these are
-//! the rules of evidence (`specs/{Numbers,Evidence}`). Where it isn't, lines of removed pairs show that no numbers can be: each line's reason
-//! rests on earlier lines (`specs/Reasons`), such lines exist exactly there, and one choice of pair and lines is made (`specs/Choosing`).
-//! Policies are unknown here: the claimed routers are a set.
+//! A node is *above* another at its location, or may stand at least as high, where it may take the other's place in everybody's route
+//! behind it. The rules for numbers, said of two nodes and of what stands above what, are those of a relation that is closed (`IsClosed`).
+//! Of all closed relations one is the greatest. It is what is left of all pairs when rounds take no more away
+//! (`rounds_end_at_the_greatest`). `gone_after` tells in which round a pair goes, from the graph, from what can be reached and from what is
+//! claimed. So what is promised of a relation names no rounds.
+//!
+//! Where the greatest relation is total, of each two nodes at a location one is above the other. Nodes that are above each other are a
+//! class. A node's number is 100 and one for each class that stands strictly lower, and these numbers meet the rules. Where the relation
+//! isn't total, no numbers do (`numbers_exist_where_total`). The same holds of the rules of evidence, on well-formed graphs whose listeners
+//! have ranks (`evidence_exists_where_total`).
+//!
+//! The rules are asked at every location, peers and origins among them, so that none of them asks what a location is. A step answers a step
+//! only of its kind: one to a node that hears answers one to a node that hears, and the others answer each other. Otherwise a graph with
+//! marks of both kinds at one location could have a total relation and no numbers. To have no rank is worst. The claimed routers are a set.
+//!
+//! A *refutation* is two nodes at one location and lines of pairs that went, so that neither of the two may be above the other. Each line's
+//! reason rests on earlier lines (`specs/Reasons`). Refutations exist exactly where the relation isn't total
+//! (`refutations_exist_where_not_total`), and of all of them one is chosen (`specs/Choosing`), so that there is one answer.
+//!
+//! It knows nothing of policies.
 #![tactic(auto)]
 
 mod refutations;

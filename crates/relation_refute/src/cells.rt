@@ -44,7 +44,7 @@ impl Cells {
         self.rounds[self.cell(m, n)]
     }
 
-    /// The cell of m above n.
+    // The cell of m above n.
     fn cell(&self, m: u32, n: u32) -> usize
         requires m { m < length self.now.spots.items }
         requires n { n < length self.now.bases.items }
@@ -72,7 +72,7 @@ impl Cells {
         }
     }
 
-    /// The same for the row of one node.
+    // The same for the row of one node.
     fn mark_row(&mut self, maps: &Maps, left: &Rows, n: u32, round: u32)
         requires cells { AreCells maps.now.graph.now self.old }
         requires left { AreNodeRows maps.now.graph.now left.now }
@@ -91,14 +91,14 @@ impl Cells {
     }
 }
 
-/// The round of a pair that isn't left: a pair without one gets this one.
+// The round of a pair that isn't left: a pair without one gets this one.
 fn marked(old: u32, round: u32) -> u32
     ensures { result ≡ marked_round old false round }
 {
     if old == 0 { round } else { old }
 }
 
-/// For each node how many nodes with lesser numbers stand at its location. Counts how many stand at each.
+// For each node how many nodes with lesser numbers stand at its location. Counts how many stand at each.
 fn numbered_spots(alloc: Global, graph: &Graph, counts: &mut [u32]) -> Result<Vec<u32>, AllocError>
     requires counts { (n : ℕ) → n < length graph.now.nodes → place_of graph.now n < length counts.old }
     requires none { (l : ℕ) → slice_index_or counts.old l 0 ≡ 0 }
@@ -116,7 +116,7 @@ fn numbered_spots(alloc: Global, graph: &Graph, counts: &mut [u32]) -> Result<Ve
     Ok(spots)
 }
 
-/// The cells of these spots, where so many nodes stand at each location.
+// The cells of these spots, where so many nodes stand at each location.
 fn empty_cells(
     alloc: Global,
     graph: &Graph,

@@ -16,8 +16,11 @@ use std::alloc::Global;
 /// In which round each pair of one location went, up to the last one, and what can be reached from each node.
 #[derive(Drop)]
 pub struct Fallen {
+    /// The round in which each pair went.
     pub cells: Cells,
+    /// A row for each node, with a bit for each node that can be reached from it.
     pub onwards: Rows,
+    /// The number, from 1, of the round that left two nodes without a direction.
     pub last: u32,
 }
 
@@ -64,7 +67,7 @@ impl Fallen {
     }
 }
 
-/// The number of the next round. There is none past the greatest number of 32 bits, and no memory for the pairs of so many rounds.
+// The number of the next round. There is none past the greatest number of 32 bits, and no memory for the pairs of so many rounds.
 fn next_round(round: u32) -> Result<u32, NoMemory>
     ensures { IfOk result (λ next. next ≡ round + 1) }
 {

@@ -22,11 +22,13 @@ use state_simulation::{Maps, is_hearer, is_outranked};
 /// A reason, and the pair on which it rests, if it rests on one.
 #[derive(Clone, Copy, Debug, PartialEq, Eq)]
 pub struct Fault {
+    /// The reason.
     pub why: Why,
+    /// The pair that had gone before and on which the reason rests: the first not as high as the second.
     pub rests: Option<(u32, u32)>,
 }
 
-/// Whether s hears where t stands, with no worse a rank.
+// Whether s hears where t stands, with no worse a rank.
 fn hears_there(graph: &Graph, s: u32, t: u32) -> bool
     requires s { s < length graph.now.nodes }
     requires t { t < length graph.now.nodes }
@@ -35,7 +37,7 @@ fn hears_there(graph: &Graph, s: u32, t: u32) -> bool
     graph.location(s) == graph.location(t) && is_hearer(graph, s, t)
 }
 
-/// Whether s stands where t stands, and doesn't hear.
+// Whether s stands where t stands, and doesn't hear.
 fn answers_there(graph: &Graph, s: u32, t: u32) -> bool
     requires s { s < length graph.now.nodes }
     requires t { t < length graph.now.nodes }
@@ -44,7 +46,7 @@ fn answers_there(graph: &Graph, s: u32, t: u32) -> bool
     graph.location(s) == graph.location(t) && !graph.hears(s)
 }
 
-/// Whether m can be reached from k, where t stands, and k went above t before this round.
+// Whether m can be reached from k, where t stands, and k went above t before this round.
 fn loops_there(maps: &Maps, fallen: &Fallen, round: u32, m: u32, t: u32, k: u32) -> bool
     requires cells { AreCells maps.now.graph.now fallen.now.cells }
     requires onwards { AreTold maps.now.graph.now fallen.now.onwards }
@@ -58,7 +60,7 @@ fn loops_there(maps: &Maps, fallen: &Fallen, round: u32, m: u32, t: u32, k: u32)
         && fallen.went_before(maps, round, k, t)
 }
 
-/// Whether m is heard by a node where t stands, with no worse a rank.
+// Whether m is heard by a node where t stands, with no worse a rank.
 fn is_heard_at(maps: &Maps, m: u32, t: u32) -> bool
     requires m { m < length maps.now.graph.now.nodes }
     requires t { t < length maps.now.graph.now.nodes }
@@ -72,7 +74,7 @@ fn is_heard_at(maps: &Maps, m: u32, t: u32) -> bool
     false
 }
 
-/// The node to which m steps where t stands and that doesn't hear.
+// The node to which m steps where t stands and that doesn't hear.
 fn answer(maps: &Maps, m: u32, t: u32) -> Option<u32>
     requires m { m < length maps.now.graph.now.nodes }
     requires t { t < length maps.now.graph.now.nodes }
@@ -87,7 +89,7 @@ fn answer(maps: &Maps, m: u32, t: u32) -> Option<u32>
     None
 }
 
-/// The least node where t stands from which m can be reached and that went above t before this round.
+// The least node where t stands from which m can be reached and that went above t before this round.
 fn looping(maps: &Maps, fallen: &Fallen, round: u32, m: u32, t: u32) -> Option<u32>
     requires cells { AreCells maps.now.graph.now fallen.now.cells }
     requires onwards { AreTold maps.now.graph.now fallen.now.onwards }
@@ -104,14 +106,14 @@ fn looping(maps: &Maps, fallen: &Fallen, round: u32, m: u32, t: u32) -> Option<u
 }
 
 impl Fault {
-    /// A reason that rests on no pair.
+    // A reason that rests on no pair.
     fn alone(why: Why) -> Fault
         ensures { result ≡ record { why = why; rests = None } }
     {
         Fault { why, rests: None }
     }
 
-    /// A reason that rests on this pair.
+    // A reason that rests on this pair.
     fn resting(why: Why, a: u32, b: u32) -> Fault
         ensures { result ≡ record { why = why; rests = Some (a, b) } }
     {
@@ -122,7 +124,7 @@ impl Fault {
     }
 }
 
-/// The reason at a step to t for which m may not stand as high, against the pairs that went before this round.
+// The reason at a step to t for which m may not stand as high, against the pairs that went before this round.
 fn fault_at(maps: &Maps, fallen: &Fallen, round: u32, m: u32, t: u32) -> Option<Fault>
     requires cells { AreCells maps.now.graph.now fallen.now.cells }
     requires onwards { AreTold maps.now.graph.now fallen.now.onwards }
@@ -162,7 +164,7 @@ pub fn is_before(graph: &Graph, t: u32, first: Option<u32>) -> bool
     }
 }
 
-/// Whether there is a reason against m at a step to t, and t stands before the first one.
+// Whether there is a reason against m at a step to t, and t stands before the first one.
 fn fails_first(maps: &Maps, fallen: &Fallen, round: u32, m: u32, t: u32, first: Option<u32>) -> bool
     requires cells { AreCells maps.now.graph.now fallen.now.cells }
     requires onwards { AreTold maps.now.graph.now fallen.now.onwards }
@@ -175,7 +177,7 @@ fn fails_first(maps: &Maps, fallen: &Fallen, round: u32, m: u32, t: u32, first: 
     is_before(maps.graph(), t, first) && fault_at(maps, fallen, round, m, t).is_some()
 }
 
-/// The step of n, first in order of location, at which there is a reason against m.
+// The step of n, first in order of location, at which there is a reason against m.
 fn first_failing(maps: &Maps, fallen: &Fallen, round: u32, m: u32, n: u32) -> Option<u32>
     requires cells { AreCells maps.now.graph.now fallen.now.cells }
     requires onwards { AreTold maps.now.graph.now fallen.now.onwards }

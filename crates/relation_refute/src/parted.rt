@@ -12,7 +12,7 @@ use crate::cells::Cells;
 use crate::faults::is_before;
 use state_simulation::Maps;
 
-/// Whether each of two nodes at one location went above the other.
+// Whether each of two nodes at one location went above the other.
 fn are_parted(maps: &Maps, cells: &Cells, m: u32, n: u32) -> bool
     requires cells { AreCells maps.now.graph.now cells.now }
     requires pair { Pair (shown maps.now.graph.now) m n }
@@ -21,7 +21,7 @@ fn are_parted(maps: &Maps, cells: &Cells, m: u32, n: u32) -> bool
     cells.round(m, n) > 0 && cells.round(n, m) > 0
 }
 
-/// Whether m stands where n stands, and each went above the other.
+// Whether m stands where n stands, and each went above the other.
 fn is_parted_from(maps: &Maps, cells: &Cells, m: u32, n: u32) -> bool
     requires cells { AreCells maps.now.graph.now cells.now }
     requires m { m < length maps.now.graph.now.nodes }
@@ -45,7 +45,7 @@ pub fn least_parted(maps: &Maps, cells: &Cells, n: u32) -> Option<u32>
     None
 }
 
-/// Whether n and some node at its location went above each other.
+// Whether n and some node at its location went above each other.
 fn has_parted(maps: &Maps, cells: &Cells, n: u32) -> bool
     requires cells { AreCells maps.now.graph.now cells.now }
     requires n { n < length maps.now.graph.now.nodes }
@@ -60,7 +60,7 @@ fn has_parted(maps: &Maps, cells: &Cells, n: u32) -> bool
     false
 }
 
-/// Whether n and some node at its location went above each other, and n stands before the first one, if there is one.
+// Whether n and some node at its location went above each other, and n stands before the first one, if there is one.
 fn is_parted_before(maps: &Maps, cells: &Cells, n: u32, first: Option<u32>) -> bool
     requires cells { AreCells maps.now.graph.now cells.now }
     requires n { n < length maps.now.graph.now.nodes }

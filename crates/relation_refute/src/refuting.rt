@@ -65,7 +65,7 @@ pub fn refutation(
     Ok(refutation)
 }
 
-/// The refutation that the rounds tell.
+// The refutation that the rounds tell.
 fn told(
     alloc: Global,
     maps: &Maps,

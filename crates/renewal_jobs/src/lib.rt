@@ -1,5 +1,5 @@
-//! The commands `renew` and `renewal`: what is compiled from a policy is written so that it may take over from an old configuration,
-//! while the network runs.
+//! The job of `renew` and `renewal`: what is compiled from a policy, written so that it may take over from an old
+//! configuration while the network runs, or its evidence; and the line that preferences run out.
 //!
 //! `renew` writes the configuration and `renewal` the evidence for it. Both compile the policy, and give what is compiled tags that stand
 //! nowhere in the old configuration, and preferences above all of its own (`evidence_renewal`). So they share one function, and what
@@ -10,7 +10,10 @@
 //! which there are too few.
 //!
 //! The old configuration may be of any network, and nothing says that it is right: its tags and its preferences alone matter.
-//! Nothing here knows stages.
+//!
+//! `renew` and `renewal` alone need it.
+//!
+//! It knows nothing of words, names, sinks or stages.
 #![tactic(auto)]
 
 mod lines;

@@ -18,7 +18,7 @@ use run_base::Stop;
 use scenarios::Scenario;
 use std::alloc::Global;
 
-/// A prefix, while nothing fails.
+// A prefix, while nothing fails.
 fn nothing_fails(alloc: Global, prefix: Prefix) -> Scenario
     ensures prefix { result.prefix ≡ prefix }
     ensures failures { failures_of result ≡ no_failures }

@@ -1,4 +1,7 @@
-//! Networks whose evidence passes come to rest: laws without code, in three steps.
+//! Networks whose evidence passes come to rest: which router can settle for good while others haven't, and the order in which all do; what
+//! can be held after rounds of deliveries, and that messages end; no code.
+//!
+//! There are three steps:
 //!
 //! 1. *Some router can always settle.* A settlement gives routes to some locations; the other routers are open. As long as settled routers
 //!    give an open one a route, some open router is secure: what a settled neighbour gives it comes before all that its open neighbours can
@@ -12,7 +15,9 @@
 //! 3. *A configured network is such.* What its routers say and take in a world is what the graph of the prefix's case does over what lives
 //!    (`proofs/OfGraph`), so the order of the first step is one for the second (`proofs/Ordered`).
 //!
-//! The compiler and texts are unknown here.
+//! Compiling doesn't need it.
+//!
+//! It knows nothing of the compiler and texts.
 #![tactic(auto)]
 
 mod rounds;

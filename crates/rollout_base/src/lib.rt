@@ -1,6 +1,8 @@
-//! Networks whose routers take other configurations while they run: what is said of them.
+//! Networks whose routers take other configurations while they run: what each router runs, what it is to load another one,
+//! what the lines of a configuration do with a prefix, what a stage between two configurations says, and what is right on
+//! the way. There is no code here.
 //!
-//! There is no code here. A *part* is what one router runs: a policy, by whose items it originates, and a configuration. A
+//! A *part* is what one router runs: a policy, by whose items it originates, and a configuration. A
 //! *mixture* says which part each router runs, and a router *loads* another part at any time. Routers, sessions and peers are
 //! as in `event_base`; only the lines by which a router speaks are those of its own part.
 //!
@@ -16,5 +18,7 @@
 //! a rollout may be cut in any way, and a router that is half-way through changing its lines is a part too, as long as each
 //! line is there whole or isn't there.
 //!
-//! Nothing here knows a graph, evidence, or how a part is made.
+//! `between`, `renew` and `renewal` alone need it.
+//!
+//! It knows nothing of graphs, evidence and how a stage is made.
 #![tactic(auto)]

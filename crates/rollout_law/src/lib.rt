@@ -1,4 +1,5 @@
-//! What loads can't change while a network runs: laws without code.
+//! The laws of loads while a network runs: events and loads keep what events keep, loads of what reads the routes of one configuration as
+//! it does change nothing, and two layers of routes whose tags are apart stay two layers; no code.
 //!
 //! Each law is a statement of `specs/Laws` or `specs/Standing`, and the function that names it in its contract is its proof. All
 //! are said of one prefix, of lines and tags alone (`rollout_base`), and of no preference.
@@ -15,7 +16,9 @@
 //! graphs of two cases. `proofs/Same` shows that worlds of one part's tags go on alike. `proofs/Standing` shows where a tag that
 //! a part gives or asks for stands: no line of a lawful configuration asks for no tag.
 //!
-//! Nothing here knows a graph or evidence.
+//! Compiling doesn't need it.
+//!
+//! It knows nothing of graphs, evidence and preferences.
 #![tactic(auto)]
 
 ghost use Rattle.rollout_law.specs.Laws.{ChangesKeep, LoadsChangeNothing, OnePartIsPlain, RolloutsBeginAlike, TagsAreOfEither};

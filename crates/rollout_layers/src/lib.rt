@@ -1,4 +1,4 @@
-//! Mixtures of the lines of two configurations come to rest in two layers: laws without code.
+//! The law that mixtures of the lines of two configurations come to rest in two layers, each an outcome of its own configuration; no code.
 //!
 //! Of one prefix, over the abstract networks of `routing_law`. `specs/Mixtures` says what a network does some of whose routers
 //! have the lines of an old configuration, some those of a new one, and some both; a router has *flipped* when it originates,
@@ -14,7 +14,9 @@
 //! `proofs/New` and `proofs/Old` that this is so of each side; `proofs/Beside` and `proofs/Joined` the way back; `proofs/Once` that the
 //! settled outcome is one.
 //!
-//! Nothing here knows a configuration, a policy or an event.
+//! Compiling doesn't need it.
+//!
+//! It knows nothing of anything but abstract networks.
 #![tactic(auto)]
 
 ghost use Rattle.rollout_layers.specs.Graphs.{MixturesHaveOutcomes, MixturesSettleOnce, WrittenLinesAreSides};

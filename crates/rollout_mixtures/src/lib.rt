@@ -1,4 +1,5 @@
-//! Mixtures of the lines of two configurations come to rest, in two layers: laws without code.
+//! The law that a network comes to rest while some routers have flipped to a new configuration and others haven't: first
+//! those settle that come to hold a new route, then the others, each as in the network of their own side. There is no code.
 //!
 //! On the way from an old configuration to a new one some routers already have the new starts, some haven't, some have the lines of
 //! both (`IsBetween` of `specs/Between`). As long as nobody loads anything, messages come to an end, whatever was run and loaded
@@ -14,7 +15,9 @@
 //! So what is held at rest is the new side's own outcome where those routers are dead, and of the others the old side's own
 //! (`specs/Layered`). `proofs/Settles` has the order of a side together with the settled outcome that it leads to.
 //!
-//! Nothing here knows how stages are made.
+//! Compiling doesn't need it.
+//!
+//! It knows nothing of the compiler, of how a stage is made, or of what a policy allows.
 #![tactic(auto)]
 
 ghost use Rattle.rollout_mixtures.specs.Laws.{MixturesComeToRest, RolloutsAreBetween};

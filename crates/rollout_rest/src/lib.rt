@@ -1,5 +1,6 @@
-//! Where a network comes to rest whose routers load other configurations while it runs, and what that makes of a rollout: laws without
-//! code.
+//! The laws of rest while routers load other configurations: where all routers read the routes of one configuration as it
+//! does, the network comes to rest where that one does, whatever was run before; and what holds of a rollout from its first
+//! load to its last. There is no code.
 //!
 //! | Law | It says | It needs |
 //! |---|---|---|
@@ -15,7 +16,9 @@
 //! `proofs/Mixed` shows that the routers of any mixture choose the first of what they take, and hold paths without loops;
 //! `proofs/Settled` that a quiet world of such readers is at rest; `proofs/Rollouts` puts the parts of a rollout together.
 //!
-//! Nothing here knows how stages are made.
+//! Compiling doesn't need it.
+//!
+//! It knows nothing of the compiler, or of how a stage is made.
 #![tactic(auto)]
 
 ghost use Rattle.rollout_rest.specs.Laws.{ReadersComeToRest, RestingReadersAreAtRest, RestingReadersAreSettled, RestingReadersHoldItsTags};

@@ -1,8 +1,9 @@
-//! What the stages between two configurations say, and what holds on the way from one to the other: laws without code.
+//! The laws of the way between two configurations: nothing is held or heard on it that neither policy allows; what the stages between them
+//! say, and that loads of the first and the last change nothing; no code.
 //!
-//! A rollout has four configurations: the old one; stage 1, which has the lines of both and the starts of the old one; stage 2,
-//! which has the lines of both and the starts of the new one; and the new one. Routers load stage 1, then stage 2, then the new
-//! one. `AreStages` of `rollout_base` says what is asked of the two stages, by what they say of a prefix alone.
+//! A rollout has four configurations: the old one; stage 1, which has the lines of both and the starts of the old one; stage 2, which has
+//! the lines of both and the starts of the new one; and the new one. Routers load stage 1, then stage 2, then the new one. `AreStages` of
+//! `rollout_base` says what is asked of the two stages, by what they say of a prefix alone.
 //!
 //! | Law | It says | It needs |
 //! |---|---|---|
@@ -11,13 +12,17 @@
 //! | `rollouts_are_still` | from the old configuration to stage 1, and from stage 2 with all routes new to the new one, loads change nothing at all | `AreStages` |
 //! | `stages_say_no_more` | stages that have the lines of both are such stages | how they were made (`IsRollout`) |
 //!
-//! Why the first: each route that stands anywhere runs in the graph of the old case or in that of the new one. `proofs/OfCase`
-//! shows that the routes of one configuration are a kind of routes that its own lines keep, and what the policy says of their
-//! paths; `rollout_law/proofs/Layers` that two such kinds stay apart under all events and loads. Where two configurations say
-//! the same of a prefix, their tags needn't be apart for it (`proofs/Alike`): then only who originates may differ, and an origin
-//! by one policy alone has no tag that anybody reads.
+//! Why the first: each route that stands anywhere runs in the graph of the old case or in that of the new one. `proofs/OfCase` shows that
+//! the routes of one configuration are a kind of routes that its own lines keep, and what the policy says of their paths;
+//! `rollout_law/proofs/Layers` that two such kinds stay apart under all events and loads. Where two configurations say the same of a
+//! prefix, their tags needn't be apart for it (`proofs/Alike`): then only who originates may differ, and an origin by one policy alone has
+//! no tag that anybody reads.
 //!
-//! Nothing here knows how parts are made, and none of it asks anything of preferences, or of rest.
+//! None of it asks anything of preferences, or says anything of rest.
+//!
+//! Compiling doesn't need it.
+//!
+//! It knows nothing of the compiler, and of how a stage is made.
 #![tactic(auto)]
 
 ghost use Rattle.rollout_stages.specs.Laws.{FirstLoadsChangeNothing, LastLoadsChangeNothing, RolloutsAreSafe, RolloutsHaveStages, StagesReadAsStarts, StagesSayNoMore};

@@ -11,10 +11,10 @@ use route_maps::{ListLine, Maps};
 use std::alloc::Global;
 use text_parts::push_bytes;
 
-/// As many bytes as most lines of lists have.
+// As many bytes as most lines of lists have.
 const LIST_BYTES: usize = 32;
 
-/// Somewhat more bytes than an entry has on the average: most that go in have 52 to 66, those that go out 30 to 40.
+// Somewhat more bytes than an entry has on the average: most that go in have 52 to 66, those that go out 30 to 40.
 const ENTRY_BYTES: usize = 56;
 
 // How many entries a router's neighbours have.

@@ -8,7 +8,9 @@ use std::marker::Model;
 /// A line of a list: what its pattern contains is permitted, or denied.
 #[derive(Clone, Copy, Debug, PartialEq, Eq)]
 pub struct ListLine {
+    /// Whether it permits, and not denies.
     pub permit: bool,
+    /// The prefixes on which it decides, where no line above it does.
     pub pattern: Pattern,
 }
 

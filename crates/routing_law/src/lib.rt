@@ -1,8 +1,9 @@
-//! The laws of routing, over abstract networks: what a configuration that was made of a graph does under all failures.
+//! The laws of routing over abstract networks: used paths are sound, numbers are greatest, ranks are best, and there is one
+//! settled outcome, under all failures. There is no code here.
 //!
-//! There is no code here. Each law is a statement of `specs/Laws` (or `specs/Settling`), and the function that names it in its
-//! contract is its proof. Networks, graphs and lines are records of plain functions on numbers, so that a layer above brings its
-//! own lists and blocks to them, once.
+//! Each law is a statement of `specs/Laws` (or `specs/Settling`), and the function that names it in its contract is its
+//! proof. Networks, graphs and lines are records of plain functions on numbers, so that no lemma speaks of lists; a layer
+//! above brings its own lists and blocks to them, once.
 //!
 //! What is spoken of, and where it is defined:
 //!
@@ -27,6 +28,8 @@
 //!
 //! The laws named `graph_..` and `ranks_are_best` are the steps in between, in terms of the graph alone. `plain_numbers_pass` shows
 //! that the rules can be met.
+//!
+//! It knows nothing of policies, configurations and lists.
 #![tactic(auto)]
 
 ghost use Rattle.routing_law.specs.Laws.{

@@ -31,7 +31,7 @@ pub fn is_gained(row: Row) -> bool
     row.old.is_none() && row.new.is_some()
 }
 
-/// Whether two ranks compare otherwise in the one policy than in the other.
+// Whether two ranks compare otherwise in the one policy than in the other.
 fn ranks_differ(old: u32, new: u32, other_old: u32, other_new: u32) -> bool
     ensures { result ≡ order_differs old new other_old other_new }
 {

@@ -9,42 +9,42 @@ use compare_base::{Row, Words};
 use net_base::List;
 use std::alloc::{AllocError, Global};
 
-/// Whether some row has two ranks.
+// Whether some row has two ranks.
 fn some_common(rows: &[Row]) -> bool
     ensures { result ≡ list_any is_common_row rows.now }
 {
     rows.iter().any(|row| is_common(*row))
 }
 
-/// Whether some walk is lost.
+// Whether some walk is lost.
 fn some_lost(rows: &[Row]) -> bool
     ensures { result ≡ list_any is_lost_row rows.now }
 {
     rows.iter().any(|row| is_lost(*row))
 }
 
-/// Whether some walk is gained.
+// Whether some walk is gained.
 fn some_gained(rows: &[Row]) -> bool
     ensures { result ≡ list_any is_gained_row rows.now }
 {
     rows.iter().any(|row| is_gained(*row))
 }
 
-/// Whether a row clashes with some other one.
+// Whether a row clashes with some other one.
 fn clashes_with_some(rows: &[Row], row: Row) -> bool
     ensures { result ≡ list_any (clashes_of row) rows.now }
 {
     rows.iter().any(|other| clashes(row, *other))
 }
 
-/// Whether some two rows clash.
+// Whether some two rows clash.
 fn some_clash(rows: &[Row]) -> bool
     ensures { result ≡ clash_of rows.now }
 {
     rows.iter().any(|row| clashes_with_some(rows, *row))
 }
 
-/// The words where some row has two ranks.
+// The words where some row has two ranks.
 fn partly(lost: bool, gained: bool, reordered: bool) -> Option<Words>
     ensures { result ≡ partly_words lost gained reordered }
 {
@@ -59,7 +59,7 @@ fn partly(lost: bool, gained: bool, reordered: bool) -> Option<Words>
     }
 }
 
-/// The words where no row has two ranks.
+// The words where no row has two ranks.
 fn one_sided(lost: bool, gained: bool) -> Option<Words>
     ensures { result ≡ one_sided_words lost gained }
 {
@@ -84,14 +84,14 @@ pub fn words_of(rows: &[Row]) -> Option<Words>
     }
 }
 
-/// Whether the other row has a better rank in a policy that permits both walks.
+// Whether the other row has a better rank in a policy that permits both walks.
 fn is_better(row: Row, other: Row) -> bool
     ensures { result ≡ is_better_row row other }
 {
     is_lesser(other.old, row.old) || is_lesser(other.new, row.new)
 }
 
-/// Whether a rank is less than another.
+// Whether a rank is less than another.
 fn is_lesser(rank: Option<u32>, than: Option<u32>) -> bool
     ensures { result ≡ is_lesser_rank rank than }
 {
@@ -101,14 +101,14 @@ fn is_lesser(rank: Option<u32>, than: Option<u32>) -> bool
     rank < than
 }
 
-/// Whether some other row is better.
+// Whether some other row is better.
 fn some_better(rows: &[Row], row: Row) -> bool
     ensures { result ≡ list_any (is_better_row row) rows.now }
 {
     rows.iter().any(|other| is_better(row, *other))
 }
 
-/// Whether a row of a place shows in what the place differs.
+// Whether a row of a place shows in what the place differs.
 fn is_shown(rows: &[Row], row: Row) -> bool
     ensures { result ≡ is_shown_row rows.now row }
 {

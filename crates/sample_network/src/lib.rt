@@ -1,4 +1,16 @@
-//! A sample of any size: the topology of a data centre and a policy for it, as texts.
+//! A data centre with a given number of leaves, and a policy for it, as two texts that spell them.
+//!
+//! `sample` makes the network and the policy as values and prints them, so its contract can say what the texts spell.
+//! `specs/Network` has the network: 2 to 96 leaves and four spines, each leaf linked with each spine, and two peers, each
+//! at a spine of its own. `specs/SamplePolicy` has the policy: each leaf originates a prefix, no leaf carries the traffic
+//! of others, and all else leaves by the first peer, or by the second one where it can't.
+//!
+//! AS numbers are private ones of two octets (RFC 6996), identifiers and prefixes lie in 10.0.0.0/8. The text of the policy
+//! is short enough to be read as an input (`short`).
+//!
+//! `sample` alone needs it.
+//!
+//! It knows nothing of cases.
 #![tactic(auto)]
 
 ghost use Rattle.std.specs.Prelude.{◌≡◌, ◌↔◌, ◌≤◌, IfOk, IsErrAnd, Ok, length};

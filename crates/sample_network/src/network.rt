@@ -14,7 +14,7 @@ use text_parts::{push_bytes, push_number};
 /// How many spines a sample has.
 pub const SPINES: u16 = 4;
 
-// The address of four bytes.
+/// The address of four bytes.
 pub fn address(a: u8, b: u8, c: u8, d: u8) -> u32
     ensures { result ≡ dotted a b c d }
 {
@@ -40,6 +40,7 @@ fn numbered(alloc: Global, letter: &[u8], number: u16) -> Result<Name, NoMemory>
     Ok(name_of(&text))
 }
 
+// The leaf at a place, from 0: `L1` with AS number 64512 and identifier 10.255.0.1, and so on.
 fn leaf(alloc: Global, place: u16) -> Result<Site, NoMemory>
     requires { place ≤ 95 }
     ensures { IfOk result (λ site. site ≡ leaf_site place) }
@@ -51,6 +52,7 @@ fn leaf(alloc: Global, place: u16) -> Result<Site, NoMemory>
     })
 }
 
+// The spine at a place, from 0: `S1` with the AS number behind those of the leaves, and so on.
 fn spine(alloc: Global, leaves: u16, place: u16) -> Result<Site, NoMemory>
     requires leaves { leaves ≤ 96 }
     requires place { place ≤ 3 }
@@ -63,6 +65,7 @@ fn spine(alloc: Global, leaves: u16, place: u16) -> Result<Site, NoMemory>
     })
 }
 
+// The peer at a place, from 0: `W1` with AS number 1001, and so on.
 fn peer(alloc: Global, place: u16) -> Result<Site, NoMemory>
     requires { place ≤ 1 }
     ensures { IfOk result (λ site. site ≡ peer_site place) }
@@ -107,6 +110,7 @@ fn routers(alloc: Global, leaves: u16) -> Result<Vec<Site>, NoMemory>
     Ok(sites)
 }
 
+// The two peers.
 fn peers(alloc: Global) -> Result<Vec<Site>, NoMemory>
     ensures { IfOk result (λ v. v.items ≡ map peer_site (numbers_below 2)) }
 {

@@ -20,7 +20,7 @@ use net_base::{List, Loc, LocSet, Net, Prefix, read_prefix};
 use scenarios::Scenario;
 use std::alloc::{AllocError, Global};
 
-/// The location of a name that a field has.
+// The location of a name that a field has.
 #[tactic(auto, unfolding(crate::specs::Rules::located))]
 fn locate(names: &LocationNames<'_>, field: Field, name: &str) -> Result<Loc, ScenarioFault>
     ensures location { GivesUnless ScenarioFault.NoMemory (λ l. l) result (located names.now field name.now) }
@@ -32,7 +32,7 @@ fn locate(names: &LocationNames<'_>, field: Field, name: &str) -> Result<Loc, Sc
     }
 }
 
-/// The locations of names.
+// The locations of names.
 fn locate_each(
     alloc: Global,
     names: &LocationNames<'_>,
@@ -50,7 +50,7 @@ fn locate_each(
     Ok(all)
 }
 
-/// The locations of a pair of names.
+// The locations of a pair of names.
 #[tactic(auto, unfolding(crate::specs::Rules::both_located))]
 fn locate_both(
     names: &LocationNames<'_>,
@@ -68,7 +68,7 @@ fn locate_both(
     Ok((a, b))
 }
 
-/// The locations of pairs of names.
+// The locations of pairs of names.
 fn locate_pairs(
     alloc: Global,
     names: &LocationNames<'_>,
@@ -85,14 +85,14 @@ fn locate_pairs(
     Ok(all)
 }
 
-/// The place of the first pair that is no link, from 0.
+// The place of the first pair that is no link, from 0.
 fn no_link(net: &Net, pairs: &[(Loc, Loc)]) -> Option<usize>
     ensures { result ≡ position (λ p. not (linked net.now p.0 p.1)) pairs.now }
 {
     pairs.iter().position(|pair| !net.linked(pair.0, pair.1))
 }
 
-/// Each pair is a link.
+// Each pair is a link.
 #[tactic(auto, unfolding(crate::specs::Rules::links_known))]
 fn are_links(net: &Net, pairs: &[(Loc, Loc)]) -> Result<(), ScenarioFault>
     ensures { GivesUnless ScenarioFault.NoMemory (λ u. u) result (links_known net.now pairs.now) }
@@ -103,21 +103,21 @@ fn are_links(net: &Net, pairs: &[(Loc, Loc)]) -> Result<(), ScenarioFault>
     }
 }
 
-/// Whether a pair is a link of a router and a peer.
+// Whether a pair is a link of a router and a peer.
 fn is_peer_link(net: &Net, pair: (Loc, Loc)) -> bool
     ensures { result ≡ is_session net.now pair }
 {
     net.linked(pair.0, pair.1) && (net.is_peer(pair.0) || net.is_peer(pair.1))
 }
 
-/// The place of the first pair that is no link of a router and a peer, from 0.
+// The place of the first pair that is no link of a router and a peer, from 0.
 fn no_session(net: &Net, pairs: &[(Loc, Loc)]) -> Option<usize>
     ensures { result ≡ position (λ p. not (is_session net.now p)) pairs.now }
 {
     pairs.iter().position(|pair| !is_peer_link(net, *pair))
 }
 
-/// Each pair is a link of a router and a peer.
+// Each pair is a link of a router and a peer.
 #[tactic(auto, unfolding(crate::specs::Rules::sessions_known))]
 fn are_sessions(net: &Net, pairs: &[(Loc, Loc)]) -> Result<(), ScenarioFault>
     ensures { GivesUnless ScenarioFault.NoMemory (λ u. u) result (sessions_known net.now pairs.now) }
@@ -128,7 +128,7 @@ fn are_sessions(net: &Net, pairs: &[(Loc, Loc)]) -> Result<(), ScenarioFault>
     }
 }
 
-/// The router of a session first.
+// The router of a session first.
 fn turned(net: &Net, pair: (Loc, Loc)) -> (Loc, Loc)
     ensures { result ≡ with_router_first net.now pair }
 {
@@ -139,7 +139,7 @@ fn turned(net: &Net, pair: (Loc, Loc)) -> (Loc, Loc)
     }
 }
 
-/// Each session with its router first.
+// Each session with its router first.
 fn turned_each(
     alloc: Global,
     net: &Net,
@@ -154,7 +154,7 @@ fn turned_each(
     Ok(all)
 }
 
-/// The set of some locations.
+// The set of some locations.
 fn set_of(locations: &[Loc]) -> LocSet
     requires { All (λ l. l < LOCATIONS) locations.now }
     ensures { result ≡ set_of_all locations.now }
@@ -166,7 +166,7 @@ fn set_of(locations: &[Loc]) -> LocSet
     set
 }
 
-/// The prefix of a text.
+// The prefix of a text.
 fn prefix_of(text: &str) -> Result<Prefix, ScenarioFault>
     ensures { GivesUnless ScenarioFault.NoMemory (λ p. p) result (or_fault ScenarioFault.BadPrefix (result_ok (prefix_spelled text.now))) }
 {
@@ -176,7 +176,7 @@ fn prefix_of(text: &str) -> Result<Prefix, ScenarioFault>
     }
 }
 
-/// The locations that a scenario names.
+// The locations that a scenario names.
 #[derive(Drop)]
 struct Located {
     dead: Vec<Loc>,
@@ -184,7 +184,7 @@ struct Located {
     pairs: Vec<(Loc, Loc)>,
 }
 
-/// The locations of all names, which are found among those of a network.
+// The locations of all names, which are found among those of a network.
 #[tactic(auto, unfolding(crate::specs::Rules::judged))]
 fn locate_all(
     alloc: Global,
@@ -201,7 +201,7 @@ fn locate_all(
     Ok(Located { dead, links, pairs })
 }
 
-/// The locations of all names in a network.
+// The locations of all names in a network.
 fn find_all(alloc: Global, net: &Net, raw: &RawScenario<'_>) -> Result<Located, ScenarioFault>
     ensures locations { IfOk result (λ all. Locates (names_of net.now) (raw_scenario raw.now) all) }
     ensures within { IfOk result (λ all. All (λ l. l < LOCATIONS) all.dead.items) }
@@ -211,7 +211,7 @@ fn find_all(alloc: Global, net: &Net, raw: &RawScenario<'_>) -> Result<Located, 
     locate_all(alloc, &names, raw)
 }
 
-/// The prefix of a scenario whose pairs are as they should be.
+// The prefix of a scenario whose pairs are as they should be.
 #[tactic(auto, unfolding(crate::specs::Rules::judged))]
 fn checked(net: &Net, raw: &RawScenario<'_>, all: &Located) -> Result<Prefix, ScenarioFault>
     requires { Locates (names_of net.now) (raw_scenario raw.now) all.now }

@@ -1,4 +1,18 @@
-//! Scenario texts: the failures that a JSON text spells.
+//! Reads a scenario of failures, a JSON text: the scenario for a network, or the first rule that the text breaks, with its
+//! number, word and values.
+//!
+//! `read_scenario` reads the JSON value, its shape and then rule after rule in the order of their numbers. The lists keep
+//! the text's order and repeats; a silent session has its router first, in whichever order the text names it.
+//! `specs/Spelled` says what a text spells, and the laws in `laws` say of each fault when it comes.
+//!
+//! A scenario has exactly its keys: a text with another key is refused, so that a misspelt key isn't a failure that is left
+//! out.
+//!
+//! The place of a pair in a fault has 64 bits, since only the length of the text bounds the number of pairs.
+//!
+//! `replay`, `drain`, `whatif`, `multipath` and `audit` alone need it.
+//!
+//! It knows nothing of policies and configurations.
 #![tactic(auto)]
 
 ghost use Rattle.serde_json.specs.View.{view};
@@ -21,7 +35,7 @@ use scenarios::Scenario;
 use serde_json::Value;
 use std::alloc::Global;
 
-/// The JSON value that the bytes spell.
+// The JSON value that the bytes spell.
 fn value_of(alloc: Global, bytes: &[u8]) -> Result<Value, ScenarioFault>
     ensures { GivesUnless ScenarioFault.NoMemory view result (or_fault ScenarioFault.NotJson (json_of bytes.now)) }
 {

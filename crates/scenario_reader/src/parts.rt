@@ -3,10 +3,15 @@
 /// A part of a scenario text.
 #[derive(Clone, Copy, Debug, PartialEq, Eq)]
 pub enum Field {
+    /// The object of the text.
     Top,
+    /// The prefix.
     Prefix,
+    /// The dead locations.
     Dead,
+    /// The dead links.
     DeadLinks,
+    /// The silent sessions.
     Silent,
 }
 

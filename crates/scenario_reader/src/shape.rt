@@ -15,20 +15,26 @@ use std::alloc::Global;
 /// A pair of names.
 #[derive(Clone, Copy)]
 pub struct RawEnds<'a> {
+    /// The name that stands first.
     pub from: &'a str,
+    /// The name that stands second.
     pub to: &'a str,
 }
 
 /// A scenario, before its names are looked up.
 #[derive(Drop)]
 pub struct RawScenario<'a> {
+    /// What stands under `prefix`.
     pub prefix: &'a str,
+    /// The names of dead locations.
     pub dead: Vec<&'a str>,
+    /// The ends of dead links.
     pub dead_links: Vec<RawEnds<'a>>,
+    /// The ends of silent sessions, in either order.
     pub silent: Vec<RawEnds<'a>>,
 }
 
-/// The pair of names that an entry spells.
+// The pair of names that an entry spells.
 #[tactic(auto, unfolding(crate::specs::Shape::ends_of))]
 fn ends(field: Field, value: &Value) -> Result<RawEnds<'_>, ScenarioFault>
     ensures { GivesUnless ScenarioFault.NoMemory raw_ends result (ends_of field (view value.now)) }
@@ -48,6 +54,7 @@ fn ends(field: Field, value: &Value) -> Result<RawEnds<'_>, ScenarioFault>
     Ok(RawEnds { from, to })
 }
 
+// The pairs of names of an array.
 fn each_ends(
     alloc: Global,
     field: Field,
@@ -63,7 +70,7 @@ fn each_ends(
     Ok(all)
 }
 
-/// The text of an entry.
+// The text of an entry.
 #[tactic(auto, unfolding(crate::specs::Shape::text_of))]
 fn text(field: Field, value: &Value) -> Result<&str, ScenarioFault>
     ensures { GivesUnless ScenarioFault.NoMemory (λ s. s.now) result (text_of field (view value.now)) }
@@ -74,6 +81,7 @@ fn text(field: Field, value: &Value) -> Result<&str, ScenarioFault>
     }
 }
 
+// The texts of an array.
 fn each_text(alloc: Global, field: Field, values: &[Value]) -> Result<Vec<&str>, ScenarioFault>
     ensures { GivesUnless ScenarioFault.NoMemory (λ v. said v.items) result (each (text_of field) (map view values.now)) }
 {

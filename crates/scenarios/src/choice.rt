@@ -16,7 +16,9 @@ use net_base::{Loc, LocSet};
 /// preference than it, or any where they hold none.
 #[derive(Clone, Copy)]
 pub struct Choices {
+    /// The routers that some neighbour gives the very route that they hold.
     pub given: LocSet,
+    /// The routers that some neighbour gives a route of a higher preference than theirs, or any where they hold none.
     pub outdone: LocSet,
 }
 

@@ -26,12 +26,15 @@ pub(crate) struct Announcement<'s> {
 /// A route that a neighbour gives: the neighbour's path, and what the import line makes of it.
 #[derive(Clone, Copy)]
 pub struct Imported<'s> {
+    /// The neighbour's path, which begins with the neighbour.
     pub path: &'s [Loc],
+    /// The tag that the import line gives the route.
     pub tag: Tag,
+    /// The local preference that the import line gives the route (RFC 4271, 5.1.5).
     pub pref: u32,
 }
 
-// Whether a path is another one with a location in front.
+/// Whether a path is another one with a location in front.
 pub(crate) fn is_in_front(path: &[Loc], first: Loc, rest: &[Loc]) -> bool
     ensures { result ≡ bytes_eq path.now (first ∷ rest.now) }
 {
@@ -41,7 +44,7 @@ pub(crate) fn is_in_front(path: &[Loc], first: Loc, rest: &[Loc]) -> bool
     }
 }
 
-// Whether a route is what its holder makes of what a neighbour gives.
+/// Whether a route is what its holder makes of what a neighbour gives.
 pub(crate) fn is_made(imported: &Imported<'_>, to: Loc, route: &Route) -> bool
     ensures { result ≡ same_route (route_of to imported.now) route.now }
 {
@@ -67,7 +70,7 @@ impl<'a> Situation<'a> {
         }
     }
 
-    // What a neighbour sends over a live session that isn't silent.
+    /// What a neighbour sends over a live session that isn't silent.
     pub(crate) fn sent<'s>(&'s self, from: &'s Loc, to: Loc) -> Option<Announcement<'s>>
         requires situation { IsSituation self.now }
         requires heard { IsTrue (not (is_peer self.now.net.now from.now && is_silent (failures_of self.now.scenario.now) to from.now)) }

@@ -13,7 +13,7 @@ pub struct LinkSet {
 }
 
 impl LinkSet {
-    /// The set without links.
+    // The set without links.
     fn new() -> LinkSet
         ensures { (net : PlainNet) (a b : ℕ) → has_link net result a b ≡ false }
     {
@@ -22,7 +22,7 @@ impl LinkSet {
         }
     }
 
-    /// Puts the link of two locations into the set, if they have one.
+    // Puts the link of two locations into the set, if they have one.
     fn put(&mut self, net: &Net, a: Loc, b: Loc)
         ensures { (c d : ℕ) → IsTrue (linked net.now c d) → has_link net.now self.new c d ≡ (has_link net.now self.old c d || joins c d (a, b)) }
     {

@@ -8,6 +8,7 @@ use net_base::{List, Loc};
 /// What each router holds, in order of location: a route or none.
 #[derive(Drop)]
 pub struct Outcome {
+    /// An entry for each router, in order of location.
     pub routes: List<Option<Route>>,
 }
 

@@ -12,9 +12,13 @@ use net_base::{List, Loc, LocSet, Net, Prefix};
 /// are silent, the router first. A silent session keeps a peer from announcing, not from hearing.
 #[derive(Drop)]
 pub struct Scenario {
+    /// The prefix of whose routes is asked.
     pub prefix: Prefix,
+    /// The locations that are dead.
     pub dead: LocSet,
+    /// The links that are dead, with either end first. A link may be listed twice.
     pub dead_links: List<(Loc, Loc)>,
+    /// The sessions in which a peer is silent, the router first. A session may be listed twice.
     pub silent: List<(Loc, Loc)>,
 }
 

@@ -18,13 +18,21 @@ use policy_base::Policy;
 /// and what fails are found once, and no memory is taken.
 #[derive(Drop)]
 pub struct Situation<'a> {
+    /// The network.
     pub net: &'a Net,
+    /// The policy, by whose items prefixes are originated.
     pub policy: &'a Policy,
+    /// The configuration, by whose lines routers speak.
     pub config: &'a Config,
+    /// The prefix, and what has failed.
     pub scenario: &'a Scenario,
+    /// What each router holds.
     pub outcome: &'a Outcome,
+    /// The class of the prefix in the configuration, from 1, or none.
     pub class: Option<u32>,
+    /// The origins of the prefix.
     pub origins: LocSet,
+    /// What the failures leave of the network.
     pub survivors: Survivors,
 }
 

@@ -14,8 +14,11 @@ use net_base::{Loc, LocSet, Net};
 /// taken.
 #[derive(Drop)]
 pub struct Survivors {
+    /// The locations that are dead.
     pub dead: LocSet,
+    /// The links that are dead.
     pub cut: LinkSet,
+    /// The links of the sessions in which a peer is silent.
     pub silent: LinkSet,
 }
 

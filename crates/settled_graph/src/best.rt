@@ -14,7 +14,7 @@ use net_base::{Loc, LocSet};
 use reach_prune::{Way, marked};
 use std::alloc::{AllocError, Global};
 
-/// Whether a node has a greater number than the best one so far, or there is none.
+// Whether a node has a greater number than the best one so far, or there is none.
 fn comes_over(numbers: &[u32], node: u32, best: Option<u32>) -> bool
     requires node { node < length numbers.now }
     requires best { (b : ℕ) → best ≡ Some b → b < length numbers.now }
@@ -48,7 +48,7 @@ pub fn best_nodes(
     Ok(best)
 }
 
-/// The number of the best node for a location that chooses.
+// The number of the best node for a location that chooses.
 fn number_wanted(numbers: &[u32], choosers: &LocSet, at: Loc, best: Option<u32>) -> Option<u32>
     requires { (n : ℕ) → best ≡ Some n → n < length numbers.now }
     ensures { result ≡ (if holds choosers.now at then option_map (number_in numbers.now) best else None) }
@@ -60,7 +60,7 @@ fn number_wanted(numbers: &[u32], choosers: &LocSet, at: Loc, best: Option<u32>)
     Some(numbers[node as usize])
 }
 
-/// The number of the best node for each location that chooses.
+// The number of the best node for each location that chooses.
 fn numbers_wanted(
     alloc: Global,
     numbers: &[u32],

@@ -18,7 +18,7 @@ use net_base::{List, Loc, LocSet, Net};
 use reach_prune::{Way, neighbours};
 use std::alloc::{AllocError, Global};
 
-/// A path with a location in front.
+// A path with a location in front.
 fn path_from(alloc: Global, first: Loc, rest: &[Loc]) -> Result<List<Loc>, AllocError>
     ensures { IfOk result (λ path. path ≡ first ∷ rest.now) }
 {
@@ -30,7 +30,7 @@ fn path_from(alloc: Global, first: Loc, rest: &[Loc]) -> Result<List<Loc>, Alloc
     Ok(path)
 }
 
-/// The route that a location takes of an offer.
+// The route that a location takes of an offer.
 fn take(
     alloc: Global,
     graph: &Graph,
@@ -52,7 +52,7 @@ fn take(
     }
 }
 
-/// Settles each location that has an offer, and returns the nodes of these locations.
+// Settles each location that has an offer, and returns the nodes of these locations.
 fn settle_offers(
     alloc: Global,
     graph: &Graph,
@@ -80,7 +80,7 @@ fn settle_offers(
     Ok(front)
 }
 
-/// A table in which no location has a route.
+// A table in which no location has a route.
 fn no_routes(alloc: Global) -> Result<Vec<Option<Settled>>, AllocError>
     ensures { IfOk result (λ routes. routes.items ≡ replicate LOCATIONS None) }
 {
@@ -91,7 +91,7 @@ fn no_routes(alloc: Global) -> Result<Vec<Option<Settled>>, AllocError>
     Ok(routes)
 }
 
-/// The starts, each settled with the path of its location alone.
+// The starts, each settled with the path of its location alone.
 fn opening(alloc: Global, graph: &Graph) -> Result<Vec<Option<Settled>>, AllocError>
     requires { AllByRecursion (λ n. n.loc < LOCATIONS) graph.now.nodes }
     ensures { IfOk result (λ routes. AreOpening graph.now routes.items) }

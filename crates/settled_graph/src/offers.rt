@@ -16,11 +16,13 @@ use std::alloc::{AllocError, Global};
 /// A step over which a settled location offers its route: its node, and the node to which this steps.
 #[derive(Clone, Copy, Debug, PartialEq, Eq)]
 pub struct Offer {
+    /// The number of the node that the settled location holds.
     pub from: u32,
+    /// The number of the node to which this steps, at the location that is offered the route.
     pub to: u32,
 }
 
-/// The identifier of a location, 0 where the network has no such location.
+// The identifier of a location, 0 where the network has no such location.
 fn identifier(net: &Net, at: Loc) -> u32
     ensures { result ≡ id_of net.now at }
 {
@@ -31,7 +33,7 @@ fn identifier(net: &Net, at: Loc) -> u32
     }
 }
 
-/// Whether the identifier of a node's location is lower than that of an offer's, or there is no offer.
+// Whether the identifier of a node's location is lower than that of an offer's, or there is no offer.
 fn comes_before(net: &Net, graph: &Graph, from: u32, offer: Option<Offer>) -> bool
     requires from { from < length graph.now.nodes }
     requires offer { (o : Offer) → offer ≡ Some o → o.from < length graph.now.nodes }
@@ -45,7 +47,7 @@ fn comes_before(net: &Net, graph: &Graph, from: u32, offer: Option<Offer>) -> bo
     }
 }
 
-/// Whether this is the number that is wanted.
+// Whether this is the number that is wanted.
 fn waits_for(wanted: Option<u32>, number: u32) -> bool
     ensures { IsTrue result ↔ (wanted ≡ Some number) }
 {
@@ -55,8 +57,8 @@ fn waits_for(wanted: Option<u32>, number: u32) -> bool
     }
 }
 
-/// Takes a step for the offer at its end where the number of its node is wanted there, unless the offer that is there comes from a
-/// location of no higher identifier.
+// Takes a step for the offer at its end where the number of its node is wanted there, unless the offer that is there comes from a
+// location of no higher identifier.
 fn visit(
     net: &Net,
     graph: &Graph,
@@ -85,7 +87,7 @@ fn visit(
     }
 }
 
-/// Takes each step from a node.
+// Takes each step from a node.
 fn visit_each(
     net: &Net,
     graph: &Graph,

@@ -8,7 +8,7 @@ use net_base::{List, LocSet, Net, known_net};
 use scenarios::Survivors;
 use std::alloc::{AllocError, Global};
 
-/// The starts of a graph at live locations.
+// The starts of a graph at live locations.
 fn open_starts(alloc: Global, survivors: &Survivors, graph: &Graph) -> Result<List<u32>, AllocError>
     ensures { IfOk result (λ starts. starts ≡ filter (lives_by survivors.now graph.now) graph.now.starts) }
 {
@@ -21,7 +21,7 @@ fn open_starts(alloc: Global, survivors: &Survivors, graph: &Graph) -> Result<Li
     Ok(starts)
 }
 
-/// The steps of a graph over which what is announced comes.
+// The steps of a graph over which what is announced comes.
 fn open_steps(
     alloc: Global,
     net: &Net,

@@ -24,21 +24,21 @@ use scenarios::{Outcome, Scenario, Survivors, origins_at};
 use settled_graph::{Settled, settle_graph};
 use std::alloc::{AllocError, Global};
 
-/// The tag of a node.
+// The tag of a node.
 fn tag_of(case: &CaseEvidence, node: u32) -> Tag
     ensures { result ≡ tag_at case.now node }
 {
     case.tags().get(node as usize).copied().unwrap_or(NO_TAG)
 }
 
-/// The preference number of a node.
+// The preference number of a node.
 fn number_of(case: &CaseEvidence, node: u32) -> u32
     ensures { result ≡ number_at case.now node }
 {
     case.prefs().get(node as usize).copied().unwrap_or(0)
 }
 
-/// The route of a path, with the tag and the number of its node.
+// The route of a path, with the tag and the number of its node.
 fn tagged(alloc: Global, case: &CaseEvidence, settled: &Settled) -> Result<Route, AllocError>
     ensures { IfOk result (λ route. route ≡ with_tag case.now settled.now) }
 {
@@ -49,7 +49,7 @@ fn tagged(alloc: Global, case: &CaseEvidence, settled: &Settled) -> Result<Route
     })
 }
 
-/// The routes of the routers where a graph is settled.
+// The routes of the routers where a graph is settled.
 fn tagged_each(
     alloc: Global,
     count: usize,
@@ -70,7 +70,7 @@ fn tagged_each(
     Ok(routes)
 }
 
-/// The routes of the routers in the graph of a case, where its live origins announce the prefix.
+// The routes of the routers in the graph of a case, where its live origins announce the prefix.
 fn case_routes(
     alloc: Global,
     net: &Net,
@@ -89,7 +89,7 @@ fn case_routes(
     Ok(routes)
 }
 
-/// So many routers without a route.
+// So many routers without a route.
 fn no_routes(alloc: Global, count: usize) -> Result<Vec<Option<Route>>, AllocError>
     ensures size { IfOk result (λ routes. length routes.items ≡ count) }
     ensures routes { IfOk result (λ routes. (r : ℕ) → entry_at routes.items r ≡ None) }
@@ -101,7 +101,7 @@ fn no_routes(alloc: Global, count: usize) -> Result<Vec<Option<Route>>, AllocErr
     Ok(routes)
 }
 
-/// The start of a graph at a location.
+// The start of a graph at a location.
 fn start_of(graph: &Graph, at: Loc) -> Option<u32>
     ensures { result ≡ start_at graph.now at }
 {
@@ -113,7 +113,7 @@ fn start_of(graph: &Graph, at: Loc) -> Option<u32>
     None
 }
 
-/// The tag of the start at an origin in the case of a prefix, or none.
+// The tag of the start at an origin in the case of a prefix, or none.
 fn own_tag(case: Option<&CaseEvidence>, at: Loc) -> Tag
     ensures { result ≡ tag_of_own (option_map (λ c. c.now) case.entry) at }
 {
@@ -126,7 +126,7 @@ fn own_tag(case: Option<&CaseEvidence>, at: Loc) -> Tag
     }
 }
 
-/// An origin's own route, where it is live.
+// An origin's own route, where it is live.
 fn own(
     alloc: Global,
     case: Option<&CaseEvidence>,
@@ -147,7 +147,7 @@ fn own(
     }))
 }
 
-/// Gives each origin its own route, where it is live, and none where it is dead.
+// Gives each origin its own route, where it is live, and none where it is dead.
 fn with_origins(
     alloc: Global,
     net: &Net,

@@ -1,4 +1,5 @@
-//! Whether there are stages between two configurations, and what stands in the way.
+//! Whether there are stages between two configurations, or what is in the way of them; the two stages, and the law that they make a rollout
+//! where nothing is.
 //!
 //! Stages are made of two configurations of the same routers with the same neighbours, where for each pair of a class of the one and a
 //! class of the other that share a prefix either both have the same lines in every block, or no tag stands in both, and the preferences of
@@ -11,7 +12,9 @@
 //!
 //! Tags apart make a rollout safe. Preferences in order are asked for so that mixtures of old and new routers come to rest.
 //!
-//! Nothing here knows texts, evidence, or how tags and preferences are chosen.
+//! `between` alone needs it.
+//!
+//! It knows nothing of texts and evidence, and of how tags and preferences are chosen.
 #![tactic(auto)]
 
 mod judging;

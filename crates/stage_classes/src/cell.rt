@@ -10,8 +10,11 @@ use std::alloc::{AllocError, Global};
 /// the patterns that they share. The number after the last class stands for none.
 #[derive(Drop)]
 pub struct Cell {
+    /// The class of the old configuration, from 1; the number after the last one stands for none.
     pub first: usize,
+    /// The class of the new configuration, from 1; the number after the last one stands for none.
     pub second: usize,
+    /// The patterns that both share, without those that an earlier class covers.
     pub patterns: List<Pattern>,
 }
 

@@ -1,4 +1,5 @@
-//! The classes of a stage between two configurations: pairs of a class of the old one and a class of the new one.
+//! The classes of a stage between two configurations: pairs of a class of the old one and a class of the new one, with the patterns that
+//! both share, and the law that the first pair with a prefix is that of its two classes.
 //!
 //! A stage has the lines of both configurations, so a prefix is to find there the lines of its class in the old one together with
 //! those of its class in the new one. A *cell* is such a pair, with the patterns that both classes share. The number after the last
@@ -13,7 +14,9 @@
 //! Each pair of patterns is looked at once, which takes a tenth of a second where each side has some 4,000, and what covers is looked
 //! for only where two patterns share something.
 //!
-//! Nothing here knows a line of a configuration, or what stages are for.
+//! `between` alone needs it.
+//!
+//! It knows nothing of the lines of a configuration, and of what stages are for.
 #![tactic(auto)]
 
 mod cell;

@@ -1,4 +1,5 @@
-//! The command `between`: a stage between two configurations, from bytes to bytes.
+//! The job of `between`: the text of a stage between two configurations, from bytes to bytes, or the line of what is in the
+//! way.
 //!
 //! Two texts are read, an old configuration and a new one. Where nothing is in the way (`stage_check`) the text of the stage is written
 //! that is asked for; else the line of what is in the way.
@@ -10,7 +11,11 @@
 //! | the refusal `too-many-lines` | a stage would have too many lines |
 //! | a fault of one of the texts | `before` and `after` tell which |
 //!
-//! `specs/Betweens` has what is said. Words of a command line, names of files and sinks are unknown here.
+//! `specs/Betweens` has what is said.
+//!
+//! `between` alone needs it.
+//!
+//! It knows nothing of words, names or sinks.
 #![tactic(auto)]
 
 mod between;

@@ -1,4 +1,5 @@
-//! When the lines of two configurations may be mixed, cell by cell: a law without code.
+//! The laws of stages that are made: when two configurations may be mixed, by the lines of two classes that share prefixes, and that the
+//! stages between them are then a rollout; no code.
 //!
 //! Routers may have the lines of two configurations, of either or of both, where for each prefix either both do the same with it or the
 //! tags of the two are apart (`MayMix` of `rollout_base`). Here that follows from what can be seen in the lines of two classes that
@@ -10,7 +11,9 @@
 //!
 //! Tags of classes that share no prefix may meet.
 //!
-//! Nothing here knows evidence, or how tags are chosen.
+//! Compiling doesn't need it.
+//!
+//! It knows nothing of evidence, and of how tags are chosen.
 #![tactic(auto)]
 
 ghost use Rattle.stage_law.specs.Mixing.{CellsMayMix, StagesMakeARollout};

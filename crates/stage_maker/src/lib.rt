@@ -1,4 +1,5 @@
-//! The configuration of a stage between two others.
+//! The configuration of a stage between two others of the same routers, and the law that it is one: lines of both, and the starts of the
+//! first.
 //!
 //! A stage has the lines of two configurations, and the starts of one of them: a *start* is an `originate` line, or an import in the
 //! block of a peer. So a router that runs it sends and takes what either of the two sends and takes, and begins no route but those of
@@ -11,7 +12,9 @@
 //! The cells say which classes of the two come together. Where the starts are those of the new configuration, the two change places,
 //! and so do the sides of the cells.
 //!
-//! Nothing here asks whether the two may be mixed: that is a question of their tags.
+//! `between` alone needs it.
+//!
+//! It knows nothing of when two configurations may be mixed, of evidence and of texts.
 #![tactic(auto)]
 
 mod join;

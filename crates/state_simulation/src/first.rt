@@ -18,7 +18,9 @@ use std::alloc::Global;
 /// The nodes of a graph as they are looked up, and its rounds behind the first one.
 #[derive(Drop)]
 pub struct FirstRound<'a> {
+    /// The nodes of the graph, as they are looked up.
     pub maps: Maps<'a>,
+    /// What the first round left, and what the second one knows.
     pub rounds: Rounds,
     changed: bool,
 }
@@ -76,7 +78,7 @@ impl<'a> FirstRound<'a> {
     }
 }
 
-/// The same behind a first round that took something away and left each two nodes at one location a direction.
+// The same behind a first round that took something away and left each two nodes at one location a direction.
 fn find_rest(
     alloc: Global,
     maps: &Maps,
@@ -104,8 +106,8 @@ fn find_rest(
     Ok(false)
 }
 
-/// Goes on to the round that takes nothing away, or to the first one that leaves two nodes at one location without a direction,
-/// and says whether none did.
+// Goes on to the round that takes nothing away, or to the first one that leaves two nodes at one location without a direction,
+// and says whether none did.
 fn stay_total(maps: &Maps, claimed: &LocSet, rounds: &mut Rounds) -> bool
     requires sized { AreSized maps.now.graph.now rounds.old }
     requires onwards { (onwards : PlainRows) × (rounds.old.onwards ≡ Some onwards) }

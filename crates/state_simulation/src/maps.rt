@@ -100,7 +100,7 @@ pub fn location_count(graph: &Graph) -> u32
     count
 }
 
-/// The nodes of each location.
+// The nodes of each location.
 fn nodes_by_place(alloc: Global, graph: &Graph) -> Result<Vec<NodeList>, AllocError>
     ensures located { IfOk result (λ peers. (n : ℕ) → n < length graph.now.nodes → place_of graph.now n < length peers.items) }
     ensures placed { IfOk result (λ peers. (p n : ℕ) → is_listed peers.items p n ≡ (nat_lt n (length graph.now.nodes) && place_of graph.now n == p)) }
@@ -110,7 +110,7 @@ fn nodes_by_place(alloc: Global, graph: &Graph) -> Result<Vec<NodeList>, AllocEr
     Ok(peers)
 }
 
-/// Each node's location and the node.
+// Each node's location and the node.
 fn placed_nodes(alloc: Global, graph: &Graph) -> Result<Vec<(u32, u32)>, AllocError>
     ensures { IfOk result (λ placed. (p n : ℕ) → is_in placed.items p n ≡ (nat_lt n (length graph.now.nodes) && place_of graph.now n == p)) }
 {

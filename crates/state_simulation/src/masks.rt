@@ -54,7 +54,7 @@ pub fn make_mask(
     }
 }
 
-/// Whether two targets at one location hear with one rank, or don't hear and have one row. Then they have one mask.
+// Whether two targets at one location hear with one rank, or don't hear and have one row. Then they have one mask.
 fn have_one_mask(maps: &Maps, left: &Rows, s: u32, t: u32) -> bool
     requires left { AreNodeRows maps.now.graph.now left.now }
     requires s { s < length maps.now.graph.now.nodes }
@@ -73,7 +73,7 @@ fn have_one_mask(maps: &Maps, left: &Rows, s: u32, t: u32) -> bool
     }
 }
 
-/// Sets the bits of these nodes.
+// Sets the bits of these nodes.
 fn set_each(mask: &mut [u64], nodes: &[u32])
     requires { All (λ n. n < 64 * length mask.old) nodes.now }
     ensures len { length mask.new ≡ length mask.old }
@@ -84,7 +84,7 @@ fn set_each(mask: &mut [u64], nodes: &[u32])
     }
 }
 
-/// Sets who steps to a node at the location of t that doesn't hear and is in t's row.
+// Sets who steps to a node at the location of t that doesn't hear and is in t's row.
 fn add_answers(mask: &mut [u64], maps: &Maps, left: &Rows, t: u32)
     requires left { AreNodeRows maps.now.graph.now left.now }
     requires mask { length maps.now.graph.now.nodes ≤ 64 * length mask.old }
@@ -100,7 +100,7 @@ fn add_answers(mask: &mut [u64], maps: &Maps, left: &Rows, t: u32)
     }
 }
 
-/// Sets who steps to a node at the location of t that hears, with no worse a rank than t.
+// Sets who steps to a node at the location of t that hears, with no worse a rank than t.
 fn add_hearers(mask: &mut [u64], maps: &Maps, t: u32)
     requires mask { length maps.now.graph.now.nodes ≤ 64 * length mask.old }
     requires t { t < length maps.now.graph.now.nodes }
@@ -123,7 +123,7 @@ pub fn is_hearer(graph: &Graph, s: u32, t: u32) -> bool
     graph.hears(s) && is_no_worse(graph.rank(s), graph.rank(t))
 }
 
-/// Sets what can be reached from a node at the location of t that isn't in t's row.
+// Sets what can be reached from a node at the location of t that isn't in t's row.
 fn add_loops(looped: &mut [u64], maps: &Maps, onwards: &Rows, left: &Rows, t: u32)
     requires onwards { AreTold maps.now.graph.now onwards.now }
     requires left { AreNodeRows maps.now.graph.now left.now }

@@ -17,7 +17,7 @@ pub fn by_location(alloc: Global, graph: &Graph) -> Result<Vec<u32>, AllocError>
     Ok(order)
 }
 
-/// The nodes of a list in which each stands with its location and rank.
+// The nodes of a list in which each stands with its location and rank.
 fn nodes_of(alloc: Global, keyed: &[(Loc, Option<u32>, u32)]) -> Result<Vec<u32>, AllocError>
     ensures { IfOk result (λ order. (n : ℕ) → is_among order.items n ≡ is_keyed keyed.now n) }
 {
@@ -28,7 +28,7 @@ fn nodes_of(alloc: Global, keyed: &[(Loc, Option<u32>, u32)]) -> Result<Vec<u32>
     Ok(order)
 }
 
-/// Each node's location and rank, and the node.
+// Each node's location and rank, and the node.
 fn keyed_nodes(alloc: Global, graph: &Graph) -> Result<Vec<(Loc, Option<u32>, u32)>, AllocError>
     ensures { IfOk result (λ keyed. (n : ℕ) → is_keyed keyed.items n ≡ nat_lt n (length graph.now.nodes)) }
 {

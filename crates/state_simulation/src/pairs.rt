@@ -29,8 +29,8 @@ pub fn ranked_pairs(alloc: Global, maps: &Maps, claimed: &LocSet) -> Result<Rows
     Ok(rows)
 }
 
-/// Sets who of the nodes at the location of n doesn't have a worse rank, where that is claimed. The rows of the nodes before n
-/// are made, and the row of one of them may be that of n too.
+// Sets who of the nodes at the location of n doesn't have a worse rank, where that is claimed. The rows of the nodes before n
+// are made, and the row of one of them may be that of n too.
 fn add_above(rows: &mut Rows, maps: &Maps, claimed: &LocSet, n: u32)
     requires rows { AreNodeRows maps.now.graph.now rows.old }
     requires n { n < length maps.now.graph.now.nodes }
@@ -46,7 +46,7 @@ fn add_above(rows: &mut Rows, maps: &Maps, claimed: &LocSet, n: u32)
     }
 }
 
-/// A node before n that has the row of n: one at its location, and with its rank where that is claimed.
+// A node before n that has the row of n: one at its location, and with its rank where that is claimed.
 fn row_before(maps: &Maps, claimed: &LocSet, n: u32) -> Option<u32>
     requires { n < length maps.now.graph.now.nodes }
     ensures { IfSome result (λ m. (m < n) × (place_of maps.now.graph.now m ≡ place_of maps.now.graph.now n)
@@ -59,7 +59,7 @@ fn row_before(maps: &Maps, claimed: &LocSet, n: u32) -> Option<u32>
     }
 }
 
-/// The first node with the location of n, where it stands before n.
+// The first node with the location of n, where it stands before n.
 fn peer_before(maps: &Maps, n: u32) -> Option<u32>
     requires { n < length maps.now.graph.now.nodes }
     ensures { IfSome result (λ m. (m < n) × (place_of maps.now.graph.now m ≡ place_of maps.now.graph.now n)) }
@@ -72,7 +72,7 @@ fn peer_before(maps: &Maps, n: u32) -> Option<u32>
     None
 }
 
-/// The first node with the location and the rank of n, where it stands before n.
+// The first node with the location and the rank of n, where it stands before n.
 fn alike_before(maps: &Maps, n: u32) -> Option<u32>
     requires { n < length maps.now.graph.now.nodes }
     ensures { IfSome result (λ m. (m < n) × (place_of maps.now.graph.now m ≡ place_of maps.now.graph.now n) × (rank_at maps.now.graph.now m ≡ rank_at maps.now.graph.now n)) }
@@ -86,7 +86,7 @@ fn alike_before(maps: &Maps, n: u32) -> Option<u32>
     None
 }
 
-/// Sets, one by one, who of the nodes at the location of n doesn't have a worse rank, where that is claimed.
+// Sets, one by one, who of the nodes at the location of n doesn't have a worse rank, where that is claimed.
 fn add_each(rows: &mut Rows, maps: &Maps, claimed: &LocSet, n: u32)
     requires rows { AreNodeRows maps.now.graph.now rows.old }
     requires n { n < length maps.now.graph.now.nodes }

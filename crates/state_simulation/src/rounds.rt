@@ -23,9 +23,12 @@ use std::alloc::{AllocError, Global};
 /// What is left after some rounds, where the last one took something away, and what the next one knows.
 #[derive(Drop)]
 pub struct Rounds {
+    /// A row for each node, with a bit for each node at its location that is left above it.
     pub left: Rows,
     next: Rows,
+    /// For each node whether the last round took something from its row; true for each before the first round.
     pub touched: Vec<bool>,
+    /// A row for each node, with a bit for each node that can be reached from it, once that was asked for.
     pub onwards: Option<Rows>,
     mask: Vec<u64>,
     looped: Vec<u64>,
@@ -133,8 +136,8 @@ impl Rounds {
     }
 }
 
-/// Whether n and some node at its location are each not in the row of the other. Of a touched node behind n that isn't asked:
-/// n is asked of it.
+// Whether n and some node at its location are each not in the row of the other. Of a touched node behind n that isn't asked:
+// n is asked of it.
 fn has_open(maps: &Maps, left: &Rows, touched: &[bool], n: u32) -> bool
     requires left { AreNodeRows maps.now.graph.now left.now }
     requires touched { length touched.now ≡ length maps.now.graph.now.nodes }
@@ -152,7 +155,7 @@ fn has_open(maps: &Maps, left: &Rows, touched: &[bool], n: u32) -> bool
     false
 }
 
-/// Whether m stands behind n in a touched row.
+// Whether m stands behind n in a touched row.
 fn asks_later(touched: &[bool], m: u32, n: u32) -> bool
     requires { m < length touched.now }
     ensures { result ≡ asks_later_in touched.now m n }

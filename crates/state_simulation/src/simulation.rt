@@ -38,7 +38,7 @@ pub fn relation(
     Ok(relation)
 }
 
-/// For each node of the graph the nodes that the rounds leave above it.
+// For each node of the graph the nodes that the rounds leave above it.
 fn rows_left(alloc: Global, graph: &Graph, claimed: &LocSet) -> Result<Rows, NoMemory>
     ensures rows { IfOk result (AreNodeRows graph.now) }
     ensures rounds { IfOk result (λ left. (reach : ℕ → ℕ → Bool) → IsReach (view_of graph.now claimed.now) reach
@@ -78,7 +78,7 @@ pub fn total_relation<'a>(
     search_rounds(alloc, graph, claimed)
 }
 
-/// The same by rounds.
+// The same by rounds.
 fn search_rounds<'a>(
     alloc: Global,
     graph: &'a Graph,
@@ -99,7 +99,7 @@ fn search_rounds<'a>(
     Ok(Search::Total(relation))
 }
 
-/// The relation of these rows of a graph's nodes.
+// The relation of these rows of a graph's nodes.
 fn held(alloc: Global, graph: &Graph, claimed: &LocSet, rows: Rows) -> Result<Relation, NoMemory>
     requires { AreNodeRows graph.now rows }
     ensures { IfOk result (λ r. r ≡ record { places = map (λ node. node.loc) graph.now.nodes; claimed = claimed.now; rows = rows }) }
@@ -108,7 +108,7 @@ fn held(alloc: Global, graph: &Graph, claimed: &LocSet, rows: Rows) -> Result<Re
     Ok(Relation::new(places, *claimed, rows))
 }
 
-/// The location of each node.
+// The location of each node.
 fn places(alloc: Global, graph: &Graph) -> Result<List<Loc>, AllocError>
     ensures { IfOk result (λ places. places ≡ map (λ node. node.loc) graph.now.nodes) }
 {

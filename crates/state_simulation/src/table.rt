@@ -75,7 +75,7 @@ impl Relation {
         true
     }
 
-    /// Whether it has a direction of the node and each other at its location.
+    // Whether it has a direction of the node and each other at its location.
     fn has_each_of(&self, m: u32) -> bool
         ensures { IsTrue result ↔ HasEachOf self.now m }
     {
@@ -87,14 +87,14 @@ impl Relation {
         true
     }
 
-    /// Whether it has a direction of two nodes, if they stand at one location.
+    // Whether it has a direction of two nodes, if they stand at one location.
     fn has_one_of(&self, m: u32, n: u32) -> bool
         ensures { result ≡ (not (are_together self.now m n) || (has self.now m n || has self.now n m)) }
     {
         !self.are_together(m, n) || self.has(m, n) || self.has(n, m)
     }
 
-    /// Whether these are nodes at one location.
+    // Whether these are nodes at one location.
     fn are_together(&self, m: u32, n: u32) -> bool
         ensures { result ≡ are_together self.now m n }
     {

@@ -45,7 +45,7 @@ pub fn take_each(
     }
 }
 
-/// Clears the bits that the mask doesn't have in the rows of these nodes.
+// Clears the bits that the mask doesn't have in the rows of these nodes.
 fn keep_each(rows: &mut Rows, nodes: &[u32], mask: &[u64])
     requires within { All (λ n. n < rows.old.count) nodes.now }
     requires mask { length mask.now ≡ rows.old.width }

@@ -14,7 +14,7 @@ use location_names::LocationNames;
 use net_base::{List, Loc, Net};
 use std::alloc::Global;
 
-/// The location of a name on the path of an entry.
+// The location of a name on the path of an entry.
 #[tactic(auto, unfolding(crate::specs::Rules::located))]
 fn locate(names: &LocationNames<'_>, place: u64, name: &str) -> Result<Loc, TablesFault>
     ensures { GivesUnless TablesFault.NoMemory (λ l. l) result (located names.now place name.now) }
@@ -25,7 +25,7 @@ fn locate(names: &LocationNames<'_>, place: u64, name: &str) -> Result<Loc, Tabl
     }
 }
 
-/// The locations of a path.
+// The locations of a path.
 fn path(
     alloc: Global,
     names: &LocationNames<'_>,
@@ -42,7 +42,7 @@ fn path(
     Ok(all)
 }
 
-/// What the router of an entry holds.
+// What the router of an entry holds.
 #[tactic(auto, unfolding(crate::specs::Rules::held_by))]
 fn held(
     alloc: Global,
@@ -65,6 +65,7 @@ fn held(
     }
 }
 
+// What the router of each entry holds.
 fn each_held(
     alloc: Global,
     names: &LocationNames<'_>,
@@ -80,7 +81,7 @@ fn each_held(
     Ok(all)
 }
 
-/// What the routers of a network hold.
+// What the routers of a network hold.
 fn all_held(
     alloc: Global,
     net: &Net,
@@ -92,7 +93,7 @@ fn all_held(
     each_held(alloc, &names, raw)
 }
 
-/// Whether the path of a route begins with this location. Where there is no route it does.
+// Whether the path of a route begins with this location. Where there is no route it does.
 fn begins_at(place: usize, held: &Option<Route>) -> bool
     ensures { result ≡ does_begin_at place held.now }
 {
@@ -105,7 +106,7 @@ fn begins_at(place: usize, held: &Option<Route>) -> bool
     }
 }
 
-/// Each route begins with its router.
+// Each route begins with its router.
 fn begin_at_holders(routes: &[Option<Route>]) -> Result<(), TablesFault>
     ensures { GivesUnless TablesFault.NoMemory (λ u. u) result (at_holders 0 routes.now) }
 {

@@ -1,4 +1,19 @@
-//! Tables texts: the routes of all routers that a JSON text spells.
+//! Reads tables, a JSON text of recorded routes: the route of each router of a network, or the first rule that the text
+//! breaks, with its number, word and values.
+//!
+//! `read_tables` reads the JSON value, its shape and then rule after rule in the order of their numbers: as many entries as
+//! routers, names of locations, and each path beginning with its router. `specs/Spelled` says what a text spells, and the
+//! laws in `laws` say of each fault when it comes.
+//!
+//! Tags and preferences are any two numbers of 32 bits: what a router shows isn't judged here. Places of entries are
+//! counted from 1, and place 0 is what stands around them.
+//!
+//! What comes back is an `Outcome`, the same value as a computed one. So the two are compared without a word on where each
+//! is from.
+//!
+//! `audit` alone needs it.
+//!
+//! It knows nothing of policies and configurations.
 #![tactic(auto)]
 
 ghost use Rattle.std.specs.Prelude.{◌≡◌, IfOk, length};
@@ -20,7 +35,7 @@ use scenarios::Outcome;
 use serde_json::Value;
 use std::alloc::Global;
 
-/// The JSON value that the bytes spell.
+// The JSON value that the bytes spell.
 fn value_of(alloc: Global, bytes: &[u8]) -> Result<Value, TablesFault>
     ensures { GivesUnless TablesFault.NoMemory view result (or_fault TablesFault.NotJson (json_of bytes.now)) }
 {

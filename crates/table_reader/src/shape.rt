@@ -16,12 +16,15 @@ use std::alloc::Global;
 /// A route, before its names are looked up.
 #[derive(Drop)]
 pub struct RawRoute<'a> {
+    /// The names along the path, as they stand.
     pub path: Vec<&'a str>,
+    /// The tag, any two numbers of 32 bits.
     pub tag: Tag,
+    /// The local preference (RFC 4271, 5.1.5), any number of 32 bits.
     pub pref: u32,
 }
 
-/// The whole number of 32 bits that a value is.
+// The whole number of 32 bits that a value is.
 fn short(value: &Value) -> Option<u32>
     ensures { result ≡ short_of (view value.now) }
 {
@@ -33,7 +36,7 @@ fn short(value: &Value) -> Option<u32>
     }
 }
 
-/// The text of a name.
+// The text of a name.
 #[tactic(auto, unfolding(crate::specs::Shape::text_of))]
 fn text(place: u64, value: &Value) -> Result<&str, TablesFault>
     ensures { GivesUnless TablesFault.NoMemory (λ s. s.now) result (text_of place (view value.now)) }
@@ -44,6 +47,7 @@ fn text(place: u64, value: &Value) -> Result<&str, TablesFault>
     }
 }
 
+// The names of an array.
 fn each_text(alloc: Global, place: u64, values: &[Value]) -> Result<Vec<&str>, TablesFault>
     ensures { GivesUnless TablesFault.NoMemory (λ v. texts v.items) result (each (text_of place) (map view values.now)) }
 {
@@ -57,7 +61,7 @@ fn each_text(alloc: Global, place: u64, values: &[Value]) -> Result<Vec<&str>, T
     Ok(all)
 }
 
-/// The names of a path.
+// The names of a path.
 #[tactic(auto, unfolding(crate::specs::Shape::path_of))]
 fn path(alloc: Global, place: u64, value: &Value) -> Result<Vec<&str>, TablesFault>
     ensures { GivesUnless TablesFault.NoMemory (λ v. texts v.items) result (path_of place (view value.now)) }
@@ -71,7 +75,7 @@ fn path(alloc: Global, place: u64, value: &Value) -> Result<Vec<&str>, TablesFau
     each_text(alloc, place, names)
 }
 
-/// The tag of two numbers.
+// The tag of two numbers.
 #[tactic(auto, unfolding(crate::specs::Shape::tag_of))]
 fn tag(place: u64, value: &Value) -> Result<Tag, TablesFault>
     ensures { GivesUnless TablesFault.NoMemory (λ t. t) result (tag_of place (view value.now)) }
@@ -91,7 +95,7 @@ fn tag(place: u64, value: &Value) -> Result<Tag, TablesFault>
     Ok(Tag { asn, value })
 }
 
-/// The route that an entry spells.
+// The route that an entry spells.
 #[tactic(auto, unfolding(crate::specs::Shape::route_of))]
 fn route(alloc: Global, place: u64, value: &Value) -> Result<RawRoute<'_>, TablesFault>
     ensures { GivesUnless TablesFault.NoMemory raw_route result (route_of place (view value.now)) }
@@ -119,7 +123,7 @@ fn route(alloc: Global, place: u64, value: &Value) -> Result<RawRoute<'_>, Table
     Ok(RawRoute { path, tag, pref })
 }
 
-/// What an entry says: a route or none.
+// What an entry says: a route or none.
 #[tactic(auto, unfolding(crate::specs::Shape::entry_of))]
 fn entry(alloc: Global, place: u64, value: &Value) -> Result<Option<RawRoute<'_>>, TablesFault>
     ensures { GivesUnless TablesFault.NoMemory raw_entry result (entry_of place (view value.now)) }
@@ -131,6 +135,7 @@ fn entry(alloc: Global, place: u64, value: &Value) -> Result<Option<RawRoute<'_>
     Ok(Some(route))
 }
 
+// What each entry says, or the first that is not as it should be.
 fn entries(alloc: Global, values: &[Value]) -> Result<Vec<Option<RawRoute<'_>>>, TablesFault>
     ensures { GivesUnless TablesFault.NoMemory (λ v. map raw_entry v.items) result (each_from entry_of 1 (map view values.now)) }
 {

@@ -1,4 +1,14 @@
-//! Networks, policies and configurations as texts, for the tests of other crates.
+//! Small networks, and policies and configurations for them, as texts, for the tests of other crates: two routers, a
+//! triangle, rings, chains, two spines, and how they are read.
+//!
+//! `Network` names them, `read` gives the network and a policy of a text, `config_of` a configuration. `path` and `tag` make
+//! the values of rows. The texts are read by the program's own readers, so a row can be compared by eye with what a user
+//! would write.
+//!
+//! They are a crate of their own since a function costs a test crate two to four times what it costs a library, and since
+//! three crates of rows share them.
+//!
+//! It knows nothing of what is tested.
 #![tactic(auto)]
 
 mod configs;

@@ -1,5 +1,14 @@
-//! Runs over texts in memory, against what is to come of them: every command with each read and each write failing in turn, and as
-//! callers have runs. Each table has a function that gives its first row that is wrong. `propane_tests` calls them.
+//! Runs over texts in memory, against what is to come of them: every command with each read and each write failing in turn,
+//! and as callers have runs.
+//!
+//! `wrong_run` runs each command of a table again and again: without a fault, then with the first read failing, then the
+//! second, and so on through all reads and writes. It gives the first run that ends otherwise than it has to. The other
+//! functions call the library as a program would, and use a sink that takes little at a time. `propane_tests` calls them all.
+//!
+//! What a run shows, text for text, is tested over files by the rows of `tools/test/runs/`, with the proved program. Here
+//! such rows would cost as much as a large crate, since a proof goes over all bytes of a table for each of its rows.
+//!
+//! It knows nothing of files.
 #![tactic(auto)]
 
 mod callers;

@@ -1,9 +1,22 @@
-//! What texts are made of, whatever their kind: how numbers, addresses, prefixes and places are written (each `push_` function adds a
-//! text to the end of another, and each is read again, and cut off a text, in one way only); how the faults of a kind of text are reported
-//! (`TextFault`: its number, its word, its values, and which one is want of memory); and the first line at which two texts differ, for
-//! `check`, `audit` and `checkmap`.
+//! What texts are made of, whatever their kind: how numbers, addresses, prefixes and places are written, how the faults of
+//! a kind of text are reported (`TextFault`), and the first line at which two texts differ.
 //!
-//! What a text says, and where in it a part stands, is unknown here.
+//! Each `push_` function adds a part to the end of a text. `specs/Texts` says the bytes of each part. Each part is read
+//! again (`prefixes_are_read_again`), and is cut off a text in one way only (`texts_are_cut_one_way`). With that the crates
+//! above prove that a text is that of one value.
+//!
+//! Faults of all texts are reported in one way: a number, a word and values. The fault type of a text says what the text
+//! breaks, as a Rust enum. Its number, word and values are the methods of the trait beside it, and `specs/Telling` says
+//! what a kind of fault has to tell. So the line of a fault is written and proved once, for every kind. `thiserror` isn't
+//! used here: its text is that of `Display`, and a contract names the bytes of a line. The kind of text is no part of the
+//! fault, since one fault type can serve two kinds of text.
+//!
+//! Of several broken rules the one with the least number is told. Want of memory has the number 0: it is no fault of the
+//! text.
+//!
+//! `first_difference` compares two texts byte by byte and counts lines, for `check`, `audit` and `checkmap`.
+//!
+//! It knows nothing of where the parts stand, and of what the texts say.
 #![tactic(auto)]
 
 mod difference;

@@ -1,8 +1,23 @@
-//! Topology texts: the network that a JSON text spells, or the least rule that it breaks, with its number, word and values.
+//! Reads a topology, the JSON text of a network: the network, or the least rule that the text breaks, with its number, word
+//! and values; and what a topology text means, with the law that reading meets it.
 //!
-//! What a text means is said apart, without faults and without their order (`specs/Meaning`): the keys of its objects, what stands under
-//! them, and that what they say is a network. The law `topologies_mean_their_network` ties the two: reading gives a network exactly where
-//! the text means it. Policies are unknown here.
+//! Reading goes in passes: the JSON value, its shape, and then rule after rule in the order of their numbers (`rules`), so
+//! that of several broken rules the one with the least number is told. Time and memory are in proportion to the number of
+//! bytes. `specs/Topology` says what a text spells and `specs/Rules` each rule. The laws in `laws` say of each fault when
+//! it comes.
+//!
+//! What a text means is said apart, without faults and without their order (`specs/Meaning`): the keys of its objects, what
+//! stands under them, and that what they say is a network. `topologies_mean_their_network` ties the two: reading gives a
+//! network exactly where the text means it.
+//!
+//! Names, AS numbers and identifiers differ over routers and peers together. A router has a private AS number (RFC 6996).
+//! An identifier that is malformed breaks the shape, and so does `0.0.0.0` (RFC 6286). A pair of ends that stands twice is
+//! told as a repeated link before a link to itself is.
+//!
+//! Each name that is read keeps the rule of names (`names_that_are_read_are_lawful`). That is a law of what is read and no
+//! rule of networks: only what prints a network or a policy needs it, so no other network has to prove it.
+//!
+//! It knows nothing of policies.
 #![tactic(auto)]
 
 mod fault;

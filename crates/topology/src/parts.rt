@@ -3,13 +3,21 @@
 /// A part of a topology text.
 #[derive(Clone, Copy, Debug, PartialEq, Eq)]
 pub enum Field {
+    /// The object of the text.
     Top,
+    /// An entry of `routers`, `peers` or `links`.
     Entry,
+    /// The array of routers.
     Routers,
+    /// The array of peers.
     Peers,
+    /// The array of links.
     Links,
+    /// The name of an entry.
     Name,
+    /// The AS number of an entry.
     Asn,
+    /// The BGP identifier of an entry.
     Id,
 }
 
@@ -37,8 +45,11 @@ impl Field {
 /// What a count of a topology counts.
 #[derive(Clone, Copy, Debug, PartialEq, Eq)]
 pub enum Kind {
+    /// Routers.
     Routers,
+    /// Peers.
     Peers,
+    /// Links.
     Links,
 }
 

@@ -15,23 +15,31 @@ use std::alloc::Global;
 /// An entry of `routers` or `peers`, before its rules are judged.
 #[derive(Clone, Copy)]
 pub struct RawEntry<'a> {
+    /// What stands under `name`.
     pub name: &'a str,
+    /// What stands under `asn`: a whole number, whose range isn't judged yet.
     pub asn: u64,
+    /// The address under `id` as a number of 32 bits, at least 1.
     pub id: u32,
 }
 
 /// An entry of `links`, before its rules are judged.
 #[derive(Clone, Copy)]
 pub struct RawEnds<'a> {
+    /// The name that stands first.
     pub from: &'a str,
+    /// The name that stands second.
     pub to: &'a str,
 }
 
 /// A topology, before its rules are judged.
 #[derive(Drop)]
 pub struct RawTopology<'a> {
+    /// The routers, in order of the text.
     pub routers: Vec<RawEntry<'a>>,
+    /// The peers, in order of the text.
     pub peers: Vec<RawEntry<'a>>,
+    /// The links, in order of the text.
     pub links: Vec<RawEnds<'a>>,
 }
 
@@ -89,6 +97,7 @@ fn ends(value: &Value) -> Result<RawEnds<'_>, TopoFault>
     Ok(RawEnds { from, to })
 }
 
+// The routers or peers of an array, or the first part that is not as it should be.
 #[tactic(auto, unfolding(crate::specs::Shape::each))]
 fn entries(alloc: Global, values: &[Value]) -> Result<Vec<RawEntry<'_>>, TopoFault>
     ensures { GivesUnless TopoFault.NoMemory (λ v. map raw_entry v.items) result (each entry_of (map view values.now)) }
@@ -101,6 +110,7 @@ fn entries(alloc: Global, values: &[Value]) -> Result<Vec<RawEntry<'_>>, TopoFau
     Ok(all)
 }
 
+// The links of an array, or the first part that is not as it should be.
 #[tactic(auto, unfolding(crate::specs::Shape::each))]
 fn links(alloc: Global, values: &[Value]) -> Result<Vec<RawEnds<'_>>, TopoFault>
     ensures { GivesUnless TopoFault.NoMemory (λ v. map raw_ends v.items) result (each ends_of (map view values.now)) }

@@ -19,8 +19,11 @@ use std::alloc::Global;
 /// An entry of `routers` or `peers` that has a name.
 #[derive(Clone, Copy)]
 pub struct Named {
+    /// The lawful name of the entry.
     pub name: Name,
+    /// The AS number, whose range isn't judged yet.
     pub asn: u64,
+    /// The BGP identifier as a number of 32 bits.
     pub id: u32,
 }
 

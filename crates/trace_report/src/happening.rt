@@ -11,7 +11,7 @@ use event_state::World;
 use input_output::NoMemory;
 use std::alloc::Global;
 
-/// What an event does to a world, and why it is refused, if it is: then the world stays.
+// What an event does to a world, and why it is refused, if it is: then the world stays.
 fn happen_next(
     alloc: Global,
     world: &mut World<'_>,

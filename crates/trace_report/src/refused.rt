@@ -10,11 +10,13 @@ use text_parts::{push_bytes, push_number, push_word};
 /// An event that is refused: its number, from 1, and why.
 #[derive(Clone, Copy, Debug, PartialEq, Eq)]
 pub struct Refused {
+    /// The number of the event in its list, from 1.
     pub number: u64,
+    /// Why it is refused.
     pub why: EventFault,
 }
 
-/// Adds the line of a refused event.
+// Adds the line of a refused event.
 #[tactic(auto, unfolding(crate::specs::Lines::refused_line))]
 fn push_refused(text: &mut Vec<u8>, refused: Refused) -> Result<(), NoMemory>
     ensures { OnOk result (text.new.items ≡ text.old.items ++ refused_line refused) }

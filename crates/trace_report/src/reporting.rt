@@ -20,6 +20,7 @@ use text_parts::push_bytes;
 /// A world as a report shows it.
 #[derive(Drop)]
 pub struct Standing<'a> {
+    /// The world.
     pub world: &'a World<'a>,
 }
 

@@ -1,4 +1,4 @@
-//! Which messages wait after events, and the text that tells them.
+//! The text of what waits after events: each direction's messages, in order.
 //!
 //! The events happen as in a trace, and those that are refused are passed over. Then each direction of each link is told in the
 //! network's order, message by message, the first one first: so the text says what each delivery would deliver. `waiting` begins
@@ -9,6 +9,10 @@
 //!
 //! What routers hold and peers have heard isn't told here: that is a trace. No evidence is asked, and no policy's claim: messages
 //! wait by the lines of the configuration alone.
+//!
+//! `waiting` alone needs it.
+//!
+//! It knows nothing of texts of events, evidence, and what is held.
 #![tactic(auto)]
 
 mod after_events;

@@ -10,7 +10,7 @@ use net_base::{Loc, Net};
 use outcome_report::push_next;
 use text_parts::push_bytes;
 
-/// Adds the names along a path, each after a space.
+// Adds the names along a path, each after a space.
 fn push_names(text: &mut Vec<u8>, net: &Net, path: &[Loc]) -> Result<(), NoMemory>
     ensures { OnOk result (text.new.items ≡ text.old.items ++ flat_map (next_name net.now) path.now) }
 {
@@ -20,7 +20,7 @@ fn push_names(text: &mut Vec<u8>, net: &Net, path: &[Loc]) -> Result<(), NoMemor
     Ok(())
 }
 
-/// Adds what a message says: the path of the route that it announces, or that it withdraws one.
+// Adds what a message says: the path of the route that it announces, or that it withdraws one.
 fn push_message(text: &mut Vec<u8>, net: &Net, message: Option<&Route>) -> Result<(), NoMemory>
     ensures { OnOk result (text.new.items ≡ text.old.items ++ message_text net.now (option_map (λ m. m.now) message.entry)) }
 {

@@ -14,7 +14,7 @@ use net_base::{Loc, Net};
 use std::alloc::Global;
 use trace_report::push_quiet;
 
-/// Adds the lines of the messages of a queue, the first one first.
+// Adds the lines of the messages of a queue, the first one first.
 #[tactic(auto, using(crate::proofs::Draining::first_told, crate::proofs::Draining::one_fewer))]
 fn push_each(
     alloc: Global,
@@ -34,7 +34,7 @@ fn push_each(
     Ok(())
 }
 
-/// Adds what waits from one end of a link to the other, and takes it out of the world.
+// Adds what waits from one end of a link to the other, and takes it out of the world.
 fn push_way(
     alloc: Global,
     text: &mut Vec<u8>,
@@ -52,7 +52,7 @@ fn push_way(
     push_each(alloc, text, world.net(), from, to, &mut queue)
 }
 
-/// Adds what waits on a link, first from its first end to its second and then back, and takes it out of the world.
+// Adds what waits on a link, first from its first end to its second and then back, and takes it out of the world.
 fn push_link(
     alloc: Global,
     text: &mut Vec<u8>,
@@ -69,7 +69,7 @@ fn push_link(
     push_way(alloc, text, world, link.1, link.0)
 }
 
-/// Adds what waits on each link in order, and takes it out of the world.
+// Adds what waits on each link in order, and takes it out of the world.
 fn push_links(alloc: Global, text: &mut Vec<u8>, world: &mut World<'_>) -> Result<(), NoMemory>
     ensures { OnOk result (text.new.items ≡ text.old.items ++ flat_map (link_lines world.old.net.now (state world.old)) world.old.net.now.links) }
 {

@@ -15,11 +15,13 @@ use std::alloc::{AllocError, Global};
 /// before those of the other; so where a node of the first graph is of a class, such a node bears its number.
 #[derive(Drop)]
 pub struct WalkClasses {
+    /// The class of each node of the first graph, the live one.
     pub live: List<u32>,
+    /// The class of each node of the other graph.
     pub graph: List<u32>,
 }
 
-/// The classes of two graphs apart, of which the first has so many nodes.
+// The classes of two graphs apart, of which the first has so many nodes.
 fn split(alloc: Global, all: &[u32], size: usize, other: usize) -> Result<WalkClasses, AllocError>
     requires { size + other ≤ length all.now }
     ensures live { IfOk result (λ k. (p : ℕ) → p < size → class_in k.live p ≡ class_in all.now p) }

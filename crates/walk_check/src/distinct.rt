@@ -12,7 +12,7 @@ use input_output::NoMemory;
 use net_base::Loc;
 use std::alloc::{AllocError, Global};
 
-/// The location of each start, under one number.
+// The location of each start, under one number.
 fn start_keys(alloc: Global, graph: &Graph) -> Result<Vec<(u32, Loc)>, AllocError>
     ensures { IfOk result (λ keys. keys.items ≡ map (λ (s : ℕ). (0, place_of graph.now s)) graph.now.starts) }
 {
@@ -23,7 +23,7 @@ fn start_keys(alloc: Global, graph: &Graph) -> Result<Vec<(u32, Loc)>, AllocErro
     Ok(keys)
 }
 
-/// For each step the node from which it leads, with the location to which it leads.
+// For each step the node from which it leads, with the location to which it leads.
 fn step_keys(alloc: Global, graph: &Graph) -> Result<Vec<(u32, Loc)>, AllocError>
     ensures { IfOk result (λ keys. keys.items ≡ map (λ (s : ℕ × ℕ). (s.0, place_of graph.now s.1)) graph.now.steps) }
 {
@@ -34,7 +34,7 @@ fn step_keys(alloc: Global, graph: &Graph) -> Result<Vec<(u32, Loc)>, AllocError
     Ok(keys)
 }
 
-/// Puts a key behind those that were seen, unless it is there; says whether it is new.
+// Puts a key behind those that were seen, unless it is there; says whether it is new.
 fn note(seen: &mut IndexSet<(u32, Loc)>, key: (u32, Loc)) -> Result<bool, NoMemory>
     ensures fresh { IfOk result (λ new. new ≡ not (list_any (same_pair key) seen.old.keys)) }
     ensures added { IfOk result (λ new. IsTrue new → seen.new.keys ≡ seen.old.keys ++ key ∷ []) }
@@ -42,14 +42,14 @@ fn note(seen: &mut IndexSet<(u32, Loc)>, key: (u32, Loc)) -> Result<bool, NoMemo
     Ok(seen.insert(key)?)
 }
 
-/// Whether one key comes before another.
+// Whether one key comes before another.
 fn comes_before(one: (u32, Loc), other: (u32, Loc)) -> bool
     ensures { result ≡ is_before one other }
 {
     one.0 < other.0 || (one.0 == other.0 && one.1 < other.1)
 }
 
-/// Whether each key comes before the next one, as those of a graph do whose steps are in order. Then none stands twice.
+// Whether each key comes before the next one, as those of a graph do whose steps are in order. Then none stands twice.
 fn ascend(keys: &[(u32, Loc)]) -> bool
     ensures { IsTrue result → IsDistinct same_pair keys.now }
 {
@@ -61,7 +61,7 @@ fn ascend(keys: &[(u32, Loc)]) -> bool
     true
 }
 
-/// Whether no key stands twice, by looking each one up among those before it.
+// Whether no key stands twice, by looking each one up among those before it.
 fn are_all_new(alloc: Global, keys: &[(u32, Loc)]) -> Result<bool, NoMemory>
     ensures { IfOk result (λ b. IsTrue b ↔ IsDistinct same_pair keys.now) }
 {
@@ -74,7 +74,7 @@ fn are_all_new(alloc: Global, keys: &[(u32, Loc)]) -> Result<bool, NoMemory>
     Ok(true)
 }
 
-/// Whether no key stands twice. Where they are in order none is looked up.
+// Whether no key stands twice. Where they are in order none is looked up.
 fn are_distinct(alloc: Global, keys: &[(u32, Loc)]) -> Result<bool, NoMemory>
     ensures { IfOk result (λ b. IsTrue b ↔ IsDistinct same_pair keys.now) }
 {

@@ -9,14 +9,14 @@ use input_output::NoMemory;
 use reach_prune::{Way, marked};
 use std::alloc::Global;
 
-/// Whether all are marked.
+// Whether all are marked.
 fn are_marked(marks: &[bool]) -> bool
     ensures { IsTrue result ↔ ((n : ℕ) → n < length marks.now → IsTrue (is_marked marks.now n)) }
 {
     !marks.contains(&false)
 }
 
-/// Marks the nodes to which steps lead from those that are marked, as far as one pass over the steps comes to them.
+// Marks the nodes to which steps lead from those that are marked, as far as one pass over the steps comes to them.
 fn pass_on(graph: &Graph, marks: &mut Vec<bool>)
     requires size { length marks.old.items ≡ length graph.now.nodes }
     requires reached { (n : ℕ) → IsTrue (is_marked marks.old.items n) → CanBeReached graph.now n }

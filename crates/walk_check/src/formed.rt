@@ -28,7 +28,7 @@ pub(crate) fn start_marks(alloc: Global, graph: &Graph) -> Result<Vec<bool>, All
     Ok(marks)
 }
 
-/// Whether each start is at an origin.
+// Whether each start is at an origin.
 fn starts_fit(case: &Case, graph: &Graph) -> bool
     ensures { IsTrue result ↔ StartsFit (holds case.now.origins) graph.now }
 {
@@ -40,7 +40,7 @@ fn starts_fit(case: &Case, graph: &Graph) -> bool
     true
 }
 
-/// Whether a node is a start where it is at an origin, and hears where it is to hear.
+// Whether a node is a start where it is at an origin, and hears where it is to hear.
 #[tactic(auto, unfolding(crate::specs::Formed::node_fits))]
 fn node_fits(net: &Net, case: &Case, graph: &Graph, node: u32, start: bool) -> bool
     requires node { node < length graph.now.nodes }
@@ -51,7 +51,7 @@ fn node_fits(net: &Net, case: &Case, graph: &Graph, node: u32, start: bool) -> b
     (start || !case.origins.holds(at)) && graph.hears(node) == (net.is_peer(at) && !start)
 }
 
-/// Whether the starts alone are at origins, and those nodes hear that are to hear.
+// Whether the starts alone are at origins, and those nodes hear that are to hear.
 fn nodes_fit(net: &Net, case: &Case, graph: &Graph, starts: &[bool]) -> bool
     requires size { length starts.now ≡ length graph.now.nodes }
     requires starts { (n : ℕ) → is_marked starts.now n ≡ is_start graph.now n }
@@ -65,8 +65,8 @@ fn nodes_fit(net: &Net, case: &Case, graph: &Graph, starts: &[bool]) -> bool
     true
 }
 
-/// Whether a step goes over a link from a start or a router to what is no start, and to a peer only where routers are the
-/// origins. Links are looked up among the neighbours of each location.
+// Whether a step goes over a link from a start or a router to what is no start, and to a peer only where routers are the
+// origins. Links are looked up among the neighbours of each location.
 #[tactic(auto, unfolding(crate::specs::Formed::step_fits))]
 fn step_fits(
     net: &Net,
@@ -91,7 +91,7 @@ fn step_fits(
         && !(case.external && net.is_peer(to))
 }
 
-/// Whether each step goes as it should.
+// Whether each step goes as it should.
 fn steps_fit(net: &Net, near: &[LocSet], case: &Case, graph: &Graph, starts: &[bool]) -> bool
     requires near { (x l : ℕ) → is_held near.now x l ≡ linked net.now x l }
     requires size { length starts.now ≡ length graph.now.nodes }
@@ -106,7 +106,7 @@ fn steps_fit(net: &Net, near: &[LocSet], case: &Case, graph: &Graph, starts: &[b
     true
 }
 
-/// Whether the starts, the nodes and the steps are as they should be, each by itself.
+// Whether the starts, the nodes and the steps are as they should be, each by itself.
 fn parts_fit(net: &Net, near: &[LocSet], case: &Case, graph: &Graph, starts: &[bool]) -> bool
     requires near { (x l : ℕ) → is_held near.now x l ≡ linked net.now x l }
     requires size { length starts.now ≡ length graph.now.nodes }

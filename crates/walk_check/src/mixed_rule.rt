@@ -12,7 +12,7 @@ ghost use Rattle.walk_check.specs.Firsts.{IsFirstOrNone};
 use graph_base::{Graph, ranked_routers};
 use net_base::{LocSet, Net};
 
-/// Whether a node is at one of these places and has no rank.
+// Whether a node is at one of these places and has no rank.
 fn is_mixed(graph: &Graph, claimed: &LocSet, node: u32) -> bool
     requires { node < length graph.now.nodes }
     ensures { result ≡ (holds claimed.now (place_of graph.now node) && is_none (rank_at graph.now node)) }
@@ -20,7 +20,7 @@ fn is_mixed(graph: &Graph, claimed: &LocSet, node: u32) -> bool
     claimed.holds(graph.location(node)) && graph.rank(node).is_none()
 }
 
-/// The first node at one of these places without a rank.
+// The first node at one of these places without a rank.
 fn first_mixed(graph: &Graph, claimed: &LocSet) -> Option<u32>
     ensures rules { IsGraph graph.now }
     ensures first { IsFirstOrNone (λ n. (holds claimed.now (place_of graph.now n) && is_none (rank_at graph.now n)) ≡ false) (length graph.now.nodes) result }

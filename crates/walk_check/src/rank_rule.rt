@@ -18,28 +18,28 @@ use input_output::NoMemory;
 use node_classes::pairs_met;
 use std::alloc::Global;
 
-/// The class of a node.
+// The class of a node.
 fn class_of(classes: &[u32], node: u32) -> u32
     ensures { result ≡ class_in classes.now node }
 {
     classes.get(node as usize).copied().unwrap_or(node)
 }
 
-/// The rank of a node, if there is such a node and it has one.
+// The rank of a node, if there is such a node and it has one.
 fn rank_of(graph: &Graph, node: u32) -> Option<u32>
     ensures { result ≡ rank_at graph.now node }
 {
     graph.nodes().get(node as usize)?.rank
 }
 
-/// Whether two ranks are one, or both are none.
+// Whether two ranks are one, or both are none.
 fn is_same(one: Option<u32>, other: Option<u32>) -> bool
     ensures { IsTrue result ↔ one ≡ other }
 {
     one == other
 }
 
-/// Whether the nodes of each class have one rank in the first graph: that of the node whose number the class bears.
+// Whether the nodes of each class have one rank in the first graph: that of the node whose number the class bears.
 fn have_one_rank(live: &Graph, classes: &WalkClasses) -> bool
     ensures rules { IsGraph live.now }
     ensures one { IsTrue result ↔ ((p : ℕ) → p < length live.now.nodes → rank_at live.now p ≡ rank_at live.now (class_in classes.now.live p)) }
@@ -54,7 +54,7 @@ fn have_one_rank(live: &Graph, classes: &WalkClasses) -> bool
     true
 }
 
-/// The first node of the second graph without the rank of its class.
+// The first node of the second graph without the rank of its class.
 fn first_by_classes(live: &Graph, graph: &Graph, classes: &WalkClasses) -> Option<u32>
     ensures rules { IsGraph graph.now }
     ensures first { IsFirstOrNone (λ n. rank_at graph.now n ≡ rank_at live.now (class_in classes.now.graph n)) (length graph.now.nodes) result }
@@ -69,7 +69,7 @@ fn first_by_classes(live: &Graph, graph: &Graph, classes: &WalkClasses) -> Optio
     None
 }
 
-/// The pair at a place.
+// The pair at a place.
 fn pair_at(pairs: &IndexSet<(u32, u32)>, place: usize) -> (u32, u32)
     requires { place < length pairs.now.keys }
     ensures { slice_get pairs.now.keys place ≡ Some result }
@@ -80,7 +80,7 @@ fn pair_at(pairs: &IndexSet<(u32, u32)>, place: usize) -> (u32, u32)
     *pair
 }
 
-/// The lesser of two nodes, where there is a first one.
+// The lesser of two nodes, where there is a first one.
 fn lesser(least: Option<u32>, node: u32) -> u32
     ensures { result ≡ lesser_of least node }
 {
@@ -90,7 +90,7 @@ fn lesser(least: Option<u32>, node: u32) -> u32
     }
 }
 
-/// The least node of the second graph that is paired with one of another rank.
+// The least node of the second graph that is paired with one of another rank.
 fn least_unlike(live: &Graph, graph: &Graph, pairs: &IndexSet<(u32, u32)>) -> Option<u32>
     ensures { IsLeastUnlike live.now graph.now pairs.now.keys result }
 {
@@ -106,7 +106,7 @@ fn least_unlike(live: &Graph, graph: &Graph, pairs: &IndexSet<(u32, u32)>) -> Op
     least
 }
 
-/// The first node of the second graph to which a path has a run that has one in the first graph to a node of another rank.
+// The first node of the second graph to which a path has a run that has one in the first graph to a node of another rank.
 fn first_by_pairs(alloc: Global, live: &Graph, graph: &Graph) -> Result<Option<u32>, NoMemory>
     requires live { IsSingleStepped live.now }
     requires graph { IsSingleStepped graph.now }

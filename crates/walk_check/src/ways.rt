@@ -11,7 +11,7 @@ use graph_base::Graph;
 use node_classes::{Way, put_in_order};
 use std::alloc::{AllocError, Global};
 
-/// Puts a way from a root to each start behind others. The nodes are counted from `first`.
+// Puts a way from a root to each start behind others. The nodes are counted from `first`.
 fn add_starts(ways: &mut Vec<Way>, graph: &Graph, first: u32, root: u32) -> Result<(), AllocError>
     requires { first + length graph.now.nodes < 2 ^ 32 }
     ensures { OnOk result (ways.new.items ≡ ways.old.items ++ map (start_way graph.now first root) graph.now.starts) }
@@ -26,7 +26,7 @@ fn add_starts(ways: &mut Vec<Way>, graph: &Graph, first: u32, root: u32) -> Resu
     Ok(())
 }
 
-/// Puts the way of each step behind others.
+// Puts the way of each step behind others.
 fn add_steps(ways: &mut Vec<Way>, graph: &Graph, first: u32) -> Result<(), AllocError>
     requires { first + length graph.now.nodes < 2 ^ 32 }
     ensures { OnOk result (ways.new.items ≡ ways.old.items ++ map (step_way graph.now first) graph.now.steps) }
@@ -41,7 +41,7 @@ fn add_steps(ways: &mut Vec<Way>, graph: &Graph, first: u32) -> Result<(), Alloc
     Ok(())
 }
 
-/// How many ways a graph gives. No clause says it: with less room the ways grow.
+// How many ways a graph gives. No clause says it: with less room the ways grow.
 fn way_count(graph: &Graph) -> usize {
     graph.starts().len().saturating_add(graph.steps().len())
 }

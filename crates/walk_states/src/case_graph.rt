@@ -20,7 +20,7 @@ use path_automata::Automata;
 use policy_base::{Case, FromSet};
 use std::alloc::Global;
 
-/// The numbers below a count.
+// The numbers below a count.
 fn numbers(alloc: Global, count: usize) -> Result<List<u32>, NoMemory>
     requires { count ≤ LOCATIONS }
     ensures { IfOk result (λ ns. ns ≡ numbers_below count) }
@@ -32,7 +32,7 @@ fn numbers(alloc: Global, count: usize) -> Result<List<u32>, NoMemory>
     Ok(all)
 }
 
-/// Gathers all that walks reach. These are the nodes, and the numbers of those in which walks start.
+// Gathers all that walks reach. These are the nodes, and the numbers of those in which walks start.
 fn gather(
     alloc: Global,
     net: &Net,

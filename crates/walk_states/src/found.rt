@@ -26,7 +26,7 @@ pub(crate) struct Found {
     ghost found: { AreFound rows.items numbers.items keys.items },
 }
 
-/// Makes room for the row of a state.
+// Makes room for the row of a state.
 fn make_room(rows: &mut Vec<Option<usize>>, state: usize) -> Result<(), AllocError>
     ensures rows { (s : ℕ) → entry rows.new.items s ≡ entry rows.old.items s }
     ensures room { OnOk result (state < vec_len rows.new) }
@@ -38,7 +38,7 @@ fn make_room(rows: &mut Vec<Option<usize>>, state: usize) -> Result<(), AllocErr
     rows.resize(room, None)
 }
 
-/// Where the row of a state begins, if it has one.
+// Where the row of a state begins, if it has one.
 fn row_of(rows: &[Option<usize>], state: State) -> Option<usize>
     ensures { result ≡ entry rows.now state }
 {
@@ -92,7 +92,7 @@ impl Found {
         self.numbers[row + at.number() as usize]
     }
 
-    /// Where the row of a state begins, which is made where it has none.
+    // Where the row of a state begins, which is made where it has none.
     fn row(&mut self, state: State) -> Result<usize, AllocError>
         ensures keys { self.new.keys ≡ self.old.keys }
         ensures locations { self.new.locations ≡ self.old.locations }

@@ -13,14 +13,14 @@ use std::alloc::Global;
 /// many routers with few neighbours.
 pub(crate) type Ways = SmallVec<u16, 12>;
 
-/// Whether a walk may enter a location.
+// Whether a walk may enter a location.
 fn may_enter(net: &Net, case: &Case, at: Loc) -> bool
     ensures { result ≡ is_entered net.now case.now at }
 {
     !case.origins.holds(at) && (net.is_router(at) || !case.external)
 }
 
-/// Whether walks go on from a location: from origins and routers.
+// Whether walks go on from a location: from origins and routers.
 fn sends_on(net: &Net, case: &Case, at: Loc) -> bool
     ensures { result ≡ is_sending net.now case.now at }
 {
@@ -28,14 +28,14 @@ fn sends_on(net: &Net, case: &Case, at: Loc) -> bool
     net.is_router(at) || case.origins.holds(at)
 }
 
-/// Whether walks go on from one location and may enter another.
+// Whether walks go on from one location and may enter another.
 fn is_way(net: &Net, case: &Case, from: Loc, to: Loc) -> bool
     ensures { result ≡ (is_sending net.now case.now from && is_entered net.now case.now to) }
 {
     sends_on(net, case, from) && may_enter(net, case, to)
 }
 
-/// Adds a way from one location to another, where walks go on from the one and may enter the other.
+// Adds a way from one location to another, where walks go on from the one and may enter the other.
 fn add_way(ways: &mut Vec<Ways>, net: &Net, case: &Case, from: Loc, to: Loc) -> Result<(), NoMemory>
     requires within { from < vec_len ways.old }
     ensures added { OnOk result ((at : ℕ) → ways_in (map (λ v. v.items) ways.new.items) at ≡ ways_in (map (λ v. v.items) ways.old.items) at ++ way_between net.now case.now from to at) }
@@ -47,7 +47,7 @@ fn add_way(ways: &mut Vec<Ways>, net: &Net, case: &Case, from: Loc, to: Loc) -> 
     Ok(())
 }
 
-/// No way from any of so many locations.
+// No way from any of so many locations.
 fn no_ways(alloc: Global, count: usize) -> Result<Vec<Ways>, NoMemory>
     ensures none { IfOk result (λ r. (at : ℕ) → ways_in (map (λ v. v.items) r.items) at ≡ []) }
     ensures len { IfOk result (λ r. vec_len r ≡ count) }

@@ -22,10 +22,10 @@ use path_exprs::limits::NODES;
 use policy_base::{Case, FromSet};
 use std::alloc::Global;
 
-/// The most standings that walks of a case may reach.
+// The most standings that walks of a case may reach.
 const MOST_NODES: usize = NODES as usize;
 
-/// Whether a node at a location hears: at a peer that is no origin.
+// Whether a node at a location hears: at a peer that is no origin.
 fn is_listener(net: &Net, case: &Case, at: Loc) -> bool
     ensures { result ≡ (is_peer net.now at && not (holds case.now.origins at)) }
 {
@@ -61,7 +61,7 @@ impl Reached {
         }
     }
 
-    /// Makes room for what one state at each location takes.
+    // Makes room for what one state at each location takes.
     fn make_room(&mut self, net: &Net) -> Result<(), NoMemory>
         ensures standings { standings_of self.new ≡ standings_of self.old }
         ensures steps { self.new.steps.items ≡ self.old.steps.items }
@@ -80,7 +80,7 @@ impl Reached {
         self.found.len()
     }
 
-    /// Adds the standing of an origin, after it was read itself.
+    // Adds the standing of an origin, after it was read itself.
     fn add_start(&mut self, at: Loc) -> Result<(), NoMemory>
         requires begun { 0 < length (states_of self.old.automata) }
         requires within { at < self.old.found.locations }
@@ -116,7 +116,7 @@ impl Reached {
         Ok(())
     }
 
-    /// Whether a standing is held, or can be put behind the others.
+    // Whether a standing is held, or can be put behind the others.
     fn has_room(&self, at: Loc, state: State) -> bool
         requires known { state < length (states_of self.now.automata) }
         requires within { at < self.now.found.locations }
@@ -127,7 +127,7 @@ impl Reached {
         self.found.len() < MOST_NODES || self.found.number(at, state).is_some()
     }
 
-    /// The number of a standing, which is put behind the others where it isn't among them.
+    // The number of a standing, which is put behind the others where it isn't among them.
     fn number_of(&mut self, at: Loc, state: State) -> Result<u32, StandingsFault>
         requires known { state < length (states_of self.old.automata) }
         requires within { at < self.old.found.locations }
@@ -147,7 +147,7 @@ impl Reached {
         Ok(number)
     }
 
-    /// Adds the step of a standing to a location, where that can still be permitted.
+    // Adds the step of a standing to a location, where that can still be permitted.
     fn add_step(&mut self, number: u32, from: State, at: Loc) -> Result<(), StandingsFault>
         requires known { from < length (states_of self.old.automata) }
         requires within { at < self.old.found.locations }
@@ -168,7 +168,7 @@ impl Reached {
         Ok(())
     }
 
-    /// Adds the steps of a standing.
+    // Adds the steps of a standing.
     fn add_steps(&mut self, number: u32, from: State, ways: &[u16]) -> Result<(), StandingsFault>
         requires known { from < length (states_of self.old.automata) }
         requires within { AllByRecursion (λ at. at < self.old.found.locations) ways.now }
@@ -220,7 +220,7 @@ impl Reached {
         (List::from_vec(self.steps), self.automata)
     }
 
-    /// The rank of the walks that came to a standing, where they have one.
+    // The rank of the walks that came to a standing, where they have one.
     fn rank(&self, case: &Case, from: &FromSet, at: Loc, state: State) -> Option<u32>
         requires known { state < length (states_of self.now.automata) }
         ensures { (es : Items Expression) → result ≡ rank_of_standing (plan_of es from.now case.now) (standing_in (states_of self.now.automata) (at, state)) }
@@ -232,7 +232,7 @@ impl Reached {
         }
     }
 
-    /// The node of a standing.
+    // The node of a standing.
     fn node(&self, net: &Net, case: &Case, from: &FromSet, number: usize) -> Node
         requires within { number < length self.now.found.keys.items }
         ensures { (es : Items Expression) → option_map (node_of net.now (plan_of es from.now case.now)) (slice_get (standings_of self.now) number) ≡ Some result }

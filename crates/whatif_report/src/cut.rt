@@ -13,7 +13,7 @@ use net_base::{Loc, Net, known_net};
 use scenarios::Scenario;
 use std::alloc::{AllocError, Global};
 
-/// A scenario where a link is dead, too.
+// A scenario where a link is dead, too.
 fn with_dead_link(
     alloc: Global,
     scenario: &Scenario,
@@ -31,7 +31,7 @@ fn with_dead_link(
     })
 }
 
-/// A scenario where a location is dead, too.
+// A scenario where a location is dead, too.
 fn with_dead(alloc: Global, scenario: &Scenario, at: Loc) -> Result<Scenario, AllocError>
     requires { at < LOCATIONS }
     ensures dead { IfOk result (λ s. (l : ℕ) → holds s.dead l ≡ (holds scenario.now.dead l || l == at)) }
@@ -74,7 +74,7 @@ pub(crate) fn joined(a: Loc, b: Loc, one: Loc, other: Loc) -> bool
     (a == one && b == other) || (a == other && b == one)
 }
 
-/// Whether a path goes over the link of two locations.
+// Whether a path goes over the link of two locations.
 fn goes_over_link(path: &[Loc], one: Loc, other: Loc) -> bool
     ensures { result ≡ some_step (λ a b. joins a b (one, other)) path.now }
 {
@@ -86,7 +86,7 @@ fn goes_over_link(path: &[Loc], one: Loc, other: Loc) -> bool
     false
 }
 
-/// Whether a path goes over a location.
+// Whether a path goes over a location.
 fn goes_over_location(path: &[Loc], at: Loc) -> bool
     ensures { result ≡ list_any (λ l. at == l) path.now }
 {

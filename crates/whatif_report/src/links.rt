@@ -8,7 +8,7 @@ use impact_law::Cut;
 use net_base::{List, Loc, LocSet, Net};
 use std::alloc::{AllocError, Global};
 
-/// Whether a link or an end of it is cut.
+// Whether a link or an end of it is cut.
 fn is_over(cut: &Cut, link: (Loc, Loc)) -> bool
     ensures { result ≡ over_link cut.now link.0 link.1 }
 {
@@ -18,14 +18,14 @@ fn is_over(cut: &Cut, link: (Loc, Loc)) -> bool
     }
 }
 
-/// Whether a set can change over a link: an end of it holds another route, or it or an end of it is cut.
+// Whether a set can change over a link: an end of it holds another route, or it or an end of it is cut.
 fn is_touched(cut: &Cut, moved: &LocSet, link: (Loc, Loc)) -> bool
     ensures { result ≡ touches cut.now moved.now link.0 link.1 }
 {
     moved.holds(link.0) || moved.holds(link.1) || is_over(cut, link)
 }
 
-/// The links of a network over which a set can change.
+// The links of a network over which a set can change.
 fn touched_among(
     alloc: Global,
     net: &Net,
@@ -43,7 +43,7 @@ fn touched_among(
     Ok(links)
 }
 
-/// A list of one link.
+// A list of one link.
 fn alone(alloc: Global, link: (Loc, Loc)) -> Result<List<(Loc, Loc)>, AllocError>
     ensures { IfOk result (λ links. links ≡ link ∷ []) }
 {
@@ -52,7 +52,7 @@ fn alone(alloc: Global, link: (Loc, Loc)) -> Result<List<(Loc, Loc)>, AllocError
     Ok(links)
 }
 
-/// The links over which a set can change where a cut moves nobody: that of the cut alone, or those of the router that is cut.
+// The links over which a set can change where a cut moves nobody: that of the cut alone, or those of the router that is cut.
 fn cut_links(
     alloc: Global,
     net: &Net,

@@ -26,7 +26,7 @@ pub(crate) fn is_cut(cut: &Cut, router: Loc) -> bool
     }
 }
 
-/// Whether a router that isn't cut holds a route that goes over the cut.
+// Whether a router that isn't cut holds a route that goes over the cut.
 fn passes(cut: &Cut, outcome: &Outcome, router: Loc) -> bool
     ensures { result ≡ passes_over cut.now outcome.now.routes router }
 {
@@ -51,14 +51,14 @@ pub(crate) fn is_off_routes(net: &Net, outcome: &Outcome, cut: &Cut) -> bool
     true
 }
 
-/// Whether two routes are the same.
+// Whether two routes are the same.
 fn same_route(g: &Route, h: &Route) -> bool
     ensures { result ≡ is_same g.now h.now }
 {
     h.path.as_slice() == g.path.as_slice() && h.tag == g.tag && h.pref == g.pref
 }
 
-/// Whether a router holds the same route before and after, or none both times.
+// Whether a router holds the same route before and after, or none both times.
 fn same_held(before: Option<&Route>, after: Option<&Route>) -> bool
     ensures { result ≡ is_same_held (option_map (λ h. h.now) before.entry) (option_map (λ h. h.now) after.entry) }
 {
@@ -69,7 +69,7 @@ fn same_held(before: Option<&Route>, after: Option<&Route>) -> bool
     }
 }
 
-/// Whether a router that isn't cut holds another route after.
+// Whether a router that isn't cut holds another route after.
 fn is_moved(cut: &Cut, before: &Outcome, after: &Outcome, router: Loc) -> bool
     ensures { result ≡ is_moved_by cut.now before.now.routes after.now.routes router }
 {

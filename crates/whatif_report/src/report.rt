@@ -17,7 +17,7 @@ use net_base::{List, known_net, known_prefix};
 use scenarios::Situation;
 use std::alloc::Global;
 
-/// Whom the cut of each row moves.
+// Whom the cut of each row moves.
 fn moves_of(
     alloc: Global,
     settled: &SettledNet<'_, '_>,

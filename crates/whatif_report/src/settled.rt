@@ -25,7 +25,7 @@ impl SettledNet<'_, '_> {
     ghost use Rattle.whatif_report.specs.Cutting.{IsCutOf, IsWithCut};
     ghost use Rattle.whatif_report.specs.Settling.{IsSettledNet, MovesRight, moves_in};
 
-    /// Whom a cut moves, if this is the outcome after it and these routers hold another route there.
+    // Whom a cut moves, if this is the outcome after it and these routers hold another route there.
     fn moves_to(
         &self,
         alloc: Global,
@@ -52,7 +52,7 @@ impl SettledNet<'_, '_> {
         Ok(Moves { routes, sets })
     }
 
-    /// Whom a cut moves over which no other router's route goes: nothing settles anew.
+    // Whom a cut moves over which no other router's route goes: nothing settles anew.
     fn moves_off_routes(
         &self,
         alloc: Global,
@@ -78,7 +78,7 @@ impl SettledNet<'_, '_> {
         self.moves_to(alloc, cut, &after, &nobody)
     }
 
-    /// Whom any cut moves: the network settles with it.
+    // Whom any cut moves: the network settles with it.
     fn moves_anew(&self, alloc: Global, cut: &Cut, scenario: &Scenario) -> Result<Moves, NoMemory>
         requires settled { IsSettledNet self.now }
         requires scenario { IsWithCut self.now.situation.now.scenario.now cut.now scenario.now }

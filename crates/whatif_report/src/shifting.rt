@@ -21,7 +21,7 @@ pub(crate) struct Change<'t, 's, 'u> {
     pub(crate) cut: Cut,
 }
 
-/// Whether one of two is so and the other isn't.
+// Whether one of two is so and the other isn't.
 fn differ(one: bool, other: bool) -> bool
     ensures { result ≡ are_different one other }
 {
@@ -29,7 +29,7 @@ fn differ(one: bool, other: bool) -> bool
 }
 
 impl Change<'_, '_, '_> {
-    /// Whether a neighbour is in the multipath set of a location before or after, and not both times. It isn't asked of what is cut.
+    // Whether a neighbour is in the multipath set of a location before or after, and not both times. It isn't asked of what is cut.
     fn shifts(&self, at: Loc, next: Loc) -> bool
         requires { IsChange self.now }
         ensures { result ≡ shifts_in self.now next at }
@@ -41,7 +41,7 @@ impl Change<'_, '_, '_> {
             )
     }
 
-    /// A set, with one location more if a neighbour is in its multipath set before or after, and not both times.
+    // A set, with one location more if a neighbour is in its multipath set before or after, and not both times.
     fn marked(&self, marks: LocSet, at: Loc, next: Loc) -> LocSet
         requires { IsChange self.now }
         ensures { (r : ℕ) → holds result r ≡ (holds marks r || (r == at && shifts_in self.now next at)) }
