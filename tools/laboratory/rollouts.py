@@ -145,8 +145,8 @@ class Rolling:
             if number and was.get(place) == now.get(place):
                 self.fault(f"{stage.value}: {number} packets of {place[1]} to {place[0]} are lost, though its way stays")
         changed = sum(was.get(place) != now.get(place) for place in set(was) | set(now))
-        say(f"{before.value} to {stage.value}: updates {said} ways that change {changed} packets {sum(sum(each.sent.values()) for each in probes.values())} "
-            f"lost {sum(lost.values())}")
+        sent = sum(sum(each.sent.values()) for each in probes.values())
+        say(f"{before.value} to {stage.value}: updates {said} ways that change {changed} packets {sent} lost {sum(lost.values())}")
 
     def probes(self, prefix: str, paths: dict[tuple[str, str], tuple[str, ...]]) -> Probes | None:
         """Packets to a prefix from each router that isn't an origin of it by either policy."""

@@ -16,12 +16,15 @@ DRIFT = [
     ("R1.bird.conf", "filter 'in:R2'", "filter 'in:R3'", "R1: R1.bird.conf: line 65: filter 'in:R3': would be: filter 'in:R2'"),
     ("R1.frr.conf", "a-secret", "o:t;h:", "R1: R1.frr.conf: line 82: neighbor 198.51.100.1 password ..: isn't as written, below router bgp 64512\n"
      "R1: R1.frr.conf: a line is missing, below router bgp 64512: neighbor 198.51.100.1 password .."),
-    ("R2.frr.conf", " bgp bestpath compare-routerid\n", "", "R2: R2.frr.conf: a line is missing, below router bgp 64513: bgp bestpath compare-routerid"),
+    ("R2.frr.conf", " bgp bestpath compare-routerid\n", "",
+     "R2: R2.frr.conf: a line is missing, below router bgp 64513: bgp bestpath compare-routerid"),
     ("R2.frr.conf", "neighbor 10.0.0.0 activate", "neighbor 10.0.0.9 activate",
      "R2: R2.frr.conf: line 88: neighbor 10.0.0.9 activate: isn't as written, below address-family ipv4 unicast\n"
      "R2: R2.frr.conf: a line is missing, below address-family ipv4 unicast: neighbor 10.0.0.0 activate"),
-    ("R2.frr.conf", " exit-address-family\nexit\n", "neighbor 10.0.0.0 allowas-in\n", "R2: R2.frr.conf: line 100: neighbor 10.0.0.0 allowas-in: isn't as written"),
-    ("R2.frr.conf", "frr defaults traditional\n", "frr defaults traditional\nno route-map in-P2\n", "R2: R2.frr.conf: line 3: no route-map in-P2: isn't as written"),
+    ("R2.frr.conf", " exit-address-family\nexit\n", "neighbor 10.0.0.0 allowas-in\n",
+     "R2: R2.frr.conf: line 100: neighbor 10.0.0.0 allowas-in: isn't as written"),
+    ("R2.frr.conf", "frr defaults traditional\n", "frr defaults traditional\nno route-map in-P2\n",
+     "R2: R2.frr.conf: line 3: no route-map in-P2: isn't as written"),
     ("R2.frr.conf", "route-map in-R1 deny 65535", "route-map in-R1 permit 65535",
      "R2: R2.frr.conf: line 28: route-map in-R1 permit 65535: no entry as it would be written"),
     ("R2.frr.conf", " set local-preference 100\nexit\n!\nroute-map in-R1 deny", "exit\n!\nroute-map in-R1 deny",
@@ -29,7 +32,8 @@ DRIFT = [
     ("R2.frr.conf", "list-1 seq 5 permit 0.0.0.0/0", "list-1 seq 5 permit 10.0.0.0/8", "R2: R2.frr.conf: list 1 isn't that of R1"),
     ("R1.openbgpd.conf", "rde route-age ignore", "rde route-age evaluate",
      "R1: R1.openbgpd.conf: line 7: rde route-age evaluate: would be: rde route-age ignore"),
-    ("R1.openbgpd.conf", "metric 0, ", "", "R1: R1.openbgpd.conf: line 35: match from any set { community delete *:*, ext-community delete * *, origin igp }: "
+    ("R1.openbgpd.conf", "metric 0, ", "",
+     "R1: R1.openbgpd.conf: line 35: match from any set { community delete *:*, ext-community delete * *, origin igp }: "
      "would be: match from any set { community delete *:*, ext-community delete * *, metric 0, origin igp }"),
     ("R1.openbgpd.conf", "a-secret", "other", "R1: R1.openbgpd.conf: line 28: tcp md5sig password ..: would be: tcp md5sig password .."),
     ("R1.openbgpd.conf", 'descr "R2"', 'descr "R3"', "R1: R1.openbgpd.conf: no maps of R2"),
@@ -138,7 +142,8 @@ class Deploying(InFolder):
     def test_several_paths(self):
         """What spreads packets stands in the files, is read back with the same words, and is drift with others."""
         for kind, name, lines in (("--bird", "R1.bird.conf", ["  merge paths on limit 16;"]),
-                                  ("--frr", "R1.frr.conf", ["no zebra nexthop kernel enable", " bgp bestpath as-path multipath-relax", "  maximum-paths 16"])):
+                                  ("--frr", "R1.frr.conf", ["no zebra nexthop kernel enable", " bgp bestpath as-path multipath-relax",
+                                                            "  maximum-paths 16"])):
             folder = tempfile.mkdtemp(dir=self.folder)
             self.assertEqual(deploy(kind, "--paths", "16", TOPOLOGY, MAPS, ADDRESSES, folder), (0, "", ""))
             text = text_of(os.path.join(folder, name)).splitlines()
@@ -175,7 +180,8 @@ class Deploying(InFolder):
 
     def test_a_row_that_stands_twice(self):
         """FRR drops the second one of a list, so it gets a list of its own, and is read back at its place."""
-        text = text_of(MAPS).replace("list 1 permit", "list 1 deny 10.0.0.0/8\nlist 1 deny 10.0.0.0/8\nlist 1 permit 10.0.0.0/8 le 9\nlist 1 permit", 1)
+        text = text_of(MAPS).replace("list 1 permit", "list 1 deny 10.0.0.0/8\nlist 1 deny 10.0.0.0/8\n"
+                                     "list 1 permit 10.0.0.0/8 le 9\nlist 1 permit", 1)
         text = text.replace("list 1 permit 0.0.0.0/0 le 32\n", "list 1 permit 0.0.0.0/0 le 32\nlist 1 permit 10.0.0.0/8 le 9\n", 1)
         put(self.folder, "maps", text)
         maps = os.path.join(self.folder, "maps")

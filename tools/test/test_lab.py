@@ -67,7 +67,8 @@ class Asking(unittest.TestCase):
         datagram = header + (20_001).to_bytes(2, "big") + (33_434).to_bytes(2, "big") + bytes(4)
         address = b"\x0a\x00\x01\xff"
         self.assertEqual(packets.port_of(datagram, address), 20_001)
-        for other in (datagram[:-1], b"\x60" + datagram[1:], datagram.replace(b"\x82\x9a", b"\x82\x9b"), datagram.replace(address, b"\x0a\x00\x01\xfe")):
+        for other in (datagram[:-1], b"\x60" + datagram[1:], datagram.replace(b"\x82\x9a", b"\x82\x9b"),
+                      datagram.replace(address, b"\x0a\x00\x01\xfe")):
             self.assertIsNone(packets.port_of(other, address))
 
     def test_hardware_of_a_link_local_address(self):
@@ -79,7 +80,8 @@ class Asking(unittest.TestCase):
     def test_what_a_cache_answers(self):
         """RFC 8210: a response, a prefix, and the end of it."""
         self.assertEqual(origins.answer(1, ["10.0.1.0/24"], 3356).hex(),
-                         "0103000100000008" "010400000000001401181800" "0a000100" "00000d1c" "0107000100000018" "00000001" "00000e10" "00000258" "00001c20")
+                         "0103000100000008" "010400000000001401181800" "0a000100" "00000d1c"
+                         "0107000100000018" "00000001" "00000e10" "00000258" "00001c20")
         self.assertEqual(origins.answer(0, [], 1).hex(), "0003000100000008" "000700010000000c" "00000001")
 
     def test_what_bird_says(self):
@@ -145,7 +147,8 @@ class Asking(unittest.TestCase):
         self.assertIn("the lab has a /run of its own", said.getvalue())
 
     def test_reports_are_compared(self):
-        replay = "prefix P\nclass 1\nrouter R1 rank 1 path R1 R2\nrouter R2 origin\nrouter R3 none\nsession R1 P1 rank 1 path P1 R1 R2\nsession R3 P1 none\n"
+        replay = "prefix P\nclass 1\nrouter R1 rank 1 path R1 R2\nrouter R2 origin\nrouter R3 none\n" \
+            "session R1 P1 rank 1 path P1 R1 R2\nsession R3 P1 none\n"
         self.assertEqual(told_by(replay), ({"R1": ["R1", "R2"], "R2": "origin", "R3": "none"}, {("R1", "P1"): ["P1", "R1", "R2"]}))
         self.assertEqual(list(different(replay, "stable\n" + replay)), [])
         self.assertEqual(list(different(replay, "unstable router R1 missing R2\n")), ["audit: unstable router R1 missing R2"])

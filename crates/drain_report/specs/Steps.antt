@@ -2,7 +2,7 @@
 use Rattle.std.specs.Prelude.{ℕ, Bool, List, [], ◌∷◌, ◌++◌, Option, Some, None, filter, is_some, map}
 use Rattle.std.specs.List.{flat_map}
 use Rattle.config_base.specs.declared.route.Route.{Route}
-use Rattle.outcome_claims.specs.Offers.{offered_in}
+use Rattle.outcome_claims.specs.Reported.{offered_in}
 use Rattle.outcome_claims.specs.declared.reported.ReportedOutcome.{ReportedOutcome}
 
 -- from each place of a path to the next one

@@ -1,5 +1,5 @@
 -- What stands at the front of a text, behind blanks, and which lexeme it is.
-use Rattle.std.proofs.Common.{◌≡◌, ℕ, List, [], ◌∷◌, ◌++◌, length, take, drop, ◌-◌, Bool, true, false, cond, Option, Some, None, refl, sym, ap, ap₂, ◌∙◌}
+use Rattle.std.proofs.Common.{◌≡◌, ℕ, List, [], ◌∷◌, ◌++◌, length, take, drop, ◌-◌, Bool, true, false, cond, Option, Some, None, refl, sym, ap, ap₂, ◌∙◌, append_assoc}
 use Rattle.std.specs.Prelude.{◌==◌, ◌&&◌, ◌||◌, codes, nat_eq}
 use Rattle.std.specs.List.{starts_with}
 use Rattle.std.proofs.lemmas.Bool.{eqb-true, and_parts}
@@ -10,10 +10,11 @@ use Rattle.json.specs.Token.{Token, bad}
 use Rattle.json.specs.Json.{Json}
 use Rattle.json.specs.Text.{content, plain}
 use Rattle.json.specs.Word.{is_operator, is_space, ends_word, after_number, number_before, word}
-use Rattle.json.specs.Lex.{Lexeme, token, comma, colon, Class, class, quote, backslash, operator, space, other, lex, lex_byte, between, in_word}
+use Rattle.json.specs.Lex.{Lexeme, token, comma, colon, Class, class, quote, backslash, operator, space, other, string_token, lex, lex_byte, between, in_word, in_string}
 use Rattle.json.proofs.Printed.Numbers.{in_word-ended, number_alone, lex-number}
-use Rattle.json_law.specs.Grammar.{AreBlanks}
+use Rattle.json_law.specs.Grammar.{AreBlanks, IsContent}
 use Rattle.json_law.specs.Written.{IsWritten}
+use Rattle.json_law.proofs.Strings.{Closed, string_sound}
 use Rattle.json_law.proofs.Numbers.{number_parts}
 
 -- the token of a value without parts
@@ -120,6 +121,14 @@ space_by false false true d x e f g h is = (2, ap Some (sym (eqb-true x 10 g)))
 space_by false false false true x e f g h is = (3, ap Some (sym (eqb-true x 13 h)))
 space_by false false false false x e f g h is = absurd cc
 
+string_front : (o : Option (List ℕ)) (x : ℕ) (xs : List ℕ) → x ≡ 34 → content plain xs ≡ o → lex between (x ∷ xs) ≡ token (string_token (content plain xs)) ∷ lex in_string xs → Front (x ∷ xs)
+string_front None x xs is found lexed = Front.wrong (lex in_string xs) (lexed ∙ ap (λ o. token (string_token o) ∷ lex in_string xs) found)
+string_front (Some s) x xs is found lexed =
+    let c : Closed (IsContent s) xs in_string = string_sound plain xs s found in
+    Front.leaf (Token.string s) (Json.string s) [] (34 ∷ (c.written ++ 34 ∷ [])) c.rest refl (c.written, c.stands, refl) tt
+    (ap (λ y. y ∷ xs) is ∙ ap (λ l. 34 ∷ l) (c.is ∙ sym (append_assoc c.written (34 ∷ []) c.rest)))
+    (lexed ∙ ap₂ (λ o l. token (string_token o) ∷ l) found c.lexed)
+
 shifted : (x : ℕ) (xs : List ℕ) → IsIn (32 ∷ 9 ∷ 10 ∷ 13 ∷ []) x → lex between (x ∷ xs) ≡ lex between xs → Front xs → Front (x ∷ xs)
 shifted x xs blank same (Front.end blanks e) = Front.end (blank, blanks) (same ∙ e)
 shifted x xs blank same (Front.wrong ls e) = Front.wrong ls (same ∙ e)
@@ -137,6 +146,8 @@ is_mark false false false false h = absurd cc
 marked : (x y : ℕ) (xs : List ℕ) (l : Lexeme) → IsMark y l → (x == y) ≡ true → lex between (y ∷ xs) ≡ l ∷ lex between xs → Front (x ∷ xs)
 marked x y xs l m e lexed = Front.mark y l [] xs m tt (ap (λ z. z ∷ xs) (eqb-true x y e)) (ap (λ z. lex between (z ∷ xs)) (eqb-true x y e) ∙ lexed)
 
+mark_by : (a b c d e f : Bool) (x : ℕ) (xs : List ℕ) → (x == 123) ≡ a → (x == 125) ≡ b → (x == 91) ≡ c → (x == 93) ≡ d → (x == 58) ≡ e → (x == 44) ≡ f
+    → (a || b || c || d || e || f) ≡ true → Front (x ∷ xs)
 unfolding lex
 mark_by true b c d e f x xs p q r s t u is = marked x 123 xs (token Token.begin_object) IsMark.open_object p refl
 mark_by false true c d e f x xs p q r s t u is = marked x 125 xs (token Token.end_object) IsMark.close_object q refl

@@ -1,8 +1,8 @@
 -- What is read up to a closing quote is the content of what stands there, and behind it the lexer goes on.
-use Rattle.std.proofs.Common.{◌≡◌, ℕ, ◌+◌, ◌-◌, ◌<◌, ◌≤◌, List, [], ◌∷◌, ◌++◌, Bool, true, false, cond, Option, Some, None, ◌⊎◌, refl, sym, ap, ◌∙◌, subst, arith}
+use Rattle.std.proofs.Common.{◌≡◌, ℕ, ◌+◌, ◌-◌, ◌<◌, ◌≤◌, List, [], ◌∷◌, ◌++◌, Bool, true, false, cond, Option, Some, None, inl, inr, ◌⊎◌, refl, sym, ap, ◌∙◌, subst, arith}
 use Rattle.std.specs.Prelude.{◌==◌, ◌&&◌, ◌||◌, nat_lt, nat_le, option_and_then, slice_get}
 use Rattle.std.specs.Char.{is_digit, encode_utf8}
-use Rattle.std.proofs.lemmas.Bool.{true≢false, eqb-true, ne_eqb, and_parts, ltb-false, leb-true, ltb-true}
+use Rattle.std.proofs.lemmas.Bool.{true≢false, eqb-true, ne_eqb, and_parts, ltb-false, cases_lt, le-leb, lt-ltb, leb-true, ltb-true}
 use Rattle.list_law.proofs.Options.{option_and_then_parts, when_parts}
 use Rattle.list_law.specs.Members.{IsIn}
 use Rattle.json.specs.Text.{Within, plain, after_backslash, after_u, after_high, content, prepend, code_unit, short_escape, is_high_surrogate, is_low_surrogate, surrogate_pair}
@@ -83,6 +83,18 @@ short_is : (e c : ℕ) → short_escape e ≡ Some c → IsIn escapes (e, c)
 unfolding short_escape
 short_is e c h = short_by (e == 34) (e == 92) (e == 47) (e == 98) (e == 102) (e == 110) (e == 114) (e == 116) e c refl refl refl refl refl refl refl refl h
 
+no_surrogate : (u : ℕ) → is_high_surrogate u ≡ false → is_low_surrogate u ≡ false → (u < 0xd800) ⊎ (0xe000 ≤ u)
+no_surrogate u high low = elim (cases_lt u 0xd800) [
+  | inl a ↦ inl a
+  | inr b ↦ elim (cases_lt u 0xe000) [
+    | inr d ↦ inr d
+    | inl c ↦ elim (cases_lt u 0xdc00) [
+      | inl e ↦ let yes : is_high_surrogate u ≡ true = rw (le-leb 0xd800 u b, lt-ltb u 0xdc00 e) refl in absurd (true≢false (sym yes ∙ high))
+      | inr e ↦ let yes : is_low_surrogate u ≡ true = rw (le-leb 0xdc00 u e, lt-ltb u 0xe000 c) refl in absurd (true≢false (sym yes ∙ low))
+    ]
+  ]
+]
+
 -- ---- the content
 
 abbrev pub Sound : Within → List ℕ → List ℕ → Type 0
@@ -95,6 +107,8 @@ Sound (after_high high) s xs =
 abbrev Ahead : Within → List ℕ → Type 0
 Ahead w xs = (s : List ℕ) → content w xs ≡ Some s → Sound w s xs
 
+at_plain : (q b l : Bool) (x : ℕ) (xs s : List ℕ) → (x == 34) ≡ q → (x == 92) ≡ b → nat_lt x 32 ≡ l → Ahead plain xs → Ahead after_backslash xs
+    → cond q (Some []) (cond b (content after_backslash xs) (cond l None (prepend (x ∷ []) (content plain xs)))) ≡ Some s → Sound plain s (x ∷ xs)
 unfolding lex
 at_plain true b l x xs s e f g here escape h =
     let none : [] ≡ s = cc in
@@ -143,6 +157,29 @@ at_escape false x xs s e here unit h =
       is = ap (λ t. x ∷ t) c.is;
       stands = subst (λ t. IsContent t (92 ∷ x ∷ c.written)) (sym q.2) (IsContent.short (short_is x p.0 p.1) c.stands);
       lexed = passes_escaped x xs ∙ c.lexed;
+    }
+
+at_unit : (hi lo : Bool) (u a b c d : ℕ) (xs s : List ℕ) → code_unit a b c d ≡ Some u → is_high_surrogate u ≡ hi → is_low_surrogate u ≡ lo → Ahead plain xs → Ahead (after_high u) xs
+    → cond hi (content (after_high u) xs) (cond lo None (prepend (encode_utf8 u) (content plain xs))) ≡ Some s → Sound after_u s (a ∷ b ∷ c ∷ d ∷ xs)
+at_unit true lo u a b c d xs s code e f here next h =
+    let k = next s h a b c d code e in
+    record {
+      written = a ∷ b ∷ c ∷ d ∷ k.written;
+      rest = k.rest;
+      is = ap (λ t. a ∷ b ∷ c ∷ d ∷ t) k.is;
+      stands = k.stands;
+      lexed = unit_passes a b c d u xs code ∙ k.lexed;
+    }
+at_unit false true u a b c d xs s code e f here next h = absurd cc
+at_unit false false u a b c d xs s code e f here next h =
+    let p = prepend_parts (encode_utf8 u) (content plain xs) s h in
+    let k = here p.0 p.1 in
+    record {
+      written = a ∷ b ∷ c ∷ d ∷ k.written;
+      rest = k.rest;
+      is = ap (λ t. a ∷ b ∷ c ∷ d ∷ t) k.is;
+      stands = subst (λ t. IsContent t (92 ∷ 117 ∷ a ∷ b ∷ c ∷ d ∷ k.written)) (sym p.2) (IsContent.unit code (no_surrogate u e f) k.stands);
+      lexed = unit_passes a b c d u xs code ∙ k.lexed;
     }
 
 at_pair : (high : ℕ) (x y e f g h : ℕ) (xs s : List ℕ) → Ahead plain xs

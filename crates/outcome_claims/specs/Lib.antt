@@ -1,3 +1,4 @@
 pub mod Claims
 pub mod Marks
 pub mod Offers
+pub mod Reported

@@ -8,9 +8,7 @@ use Rattle.config_base.specs.declared.route.Route.{Route}
 use Rattle.config_base.specs.Lines.{same_tag}
 use Rattle.evidence_base.specs.Made.{PlainCaseEvidence, tag_at}
 use Rattle.outcome_base.specs.Outcomes.{Failures, Outcome, is_live, route_at}
-use Rattle.scenarios.specs.Scenarios.{failures_of}
 use Rattle.scenarios.specs.Tests.{unlooped}
-use Rattle.outcome_claims.specs.declared.reported.ReportedOutcome.{ReportedOutcome}
 
 -- there is a route, with this tag
 abbrev pub has_tag : Option Route → Tag → Bool
@@ -32,12 +30,3 @@ offered_by net f outcome case r peer =
     if is_live net f r peer && is_router net r && is_peer net peer && list_any (joins r peer) (told_pairs outcome case)
     then option_and_then (λ (h : Route). unlooped peer h.path) (route_at outcome r)
     else None
-
--- ---- as the code holds it
-
-abbrev pub case_in : ReportedOutcome → Option PlainCaseEvidence
-case_in s = option_map (λ c. c.now) s.case
-
--- the path that a peer is offered
-abbrev pub offered_in : ReportedOutcome → ℕ → ℕ → Option (List ℕ)
-offered_in s r peer = offered_by s.net.now (failures_of s.scenario.now) s.outcome.now.routes (case_in s) r peer

@@ -32,10 +32,11 @@ fn unless_on(path: &[Loc], peer: Loc) -> Option<&[Loc]>
 pub struct ReportedOutcome<'a> {
     /// The network.
     pub net: &'a Net,
-    pub(crate) scenario: &'a Scenario,
+    /// What fails.
+    pub scenario: &'a Scenario,
     /// What each router holds.
     pub outcome: &'a Outcome,
-    pub(crate) case: Option<&'a CaseEvidence>,
+    case: Option<&'a CaseEvidence>,
     cut: Vec<bool>,
     told: Vec<bool>,
     ghost of_links: { AreMarks net.now scenario.now.dead_links cut.items },
@@ -43,7 +44,7 @@ pub struct ReportedOutcome<'a> {
 }
 
 impl<'a> ReportedOutcome<'a> {
-    ghost use Rattle.outcome_claims.specs.Offers.{case_in, offered_in};
+    ghost use Rattle.outcome_claims.specs.Reported.{case_in, offered_in};
 
     /// An outcome under the failures of a scenario, with the case of its prefix.
     pub fn new(

@@ -7,7 +7,8 @@ use Rattle.outcome_base.specs.Outcomes.{Failures, Outcome, is_dead, route_at}
 use Rattle.scenarios.specs.Scenarios.{failures_of}
 use Rattle.outcome_claims.specs.declared.reported.ReportedOutcome.{ReportedOutcome}
 use Rattle.outcome_report.specs.Lines.{Shown}
-use Rattle.outcome_claims.specs.Offers.{case_in, offered_by}
+use Rattle.outcome_claims.specs.Offers.{offered_by}
+use Rattle.outcome_claims.specs.Reported.{case_in}
 
 -- what an outcome shows under some failures, by the case of the prefix
 abbrev pub shown_by : PlainNet → Failures → Outcome → Option PlainCaseEvidence → Shown

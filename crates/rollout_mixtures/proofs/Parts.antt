@@ -49,17 +49,17 @@ module _ (net : PlainNet) (p : PlainPrefix) (x y : Part) (clash : (r : ℕ) (t :
   }
 
 module _ (net : PlainNet) (p : PlainPrefix) (x : Part) (r : ℕ) where
-  has_itself : HasLines net p x r x
+  pub has_itself : HasLines net p x r x
   has_itself = record { sent = λ z t gives. refl; taken = λ u path t from gives. refl }
 
-  starts_itself : HasStarts net p x r x
+  pub starts_itself : HasStarts net p x r x
   starts_itself = record { origin = refl; own = λ origin. refl; heard = λ u path t off. refl }
 
-  starts_stage : (y stage : PlainConfig) → IsStage net p x.config y stage → HasStarts net p x r (staged x stage)
+  pub starts_stage : (y stage : PlainConfig) → IsStage net p x.config y stage → HasStarts net p x r (staged x stage)
   starts_stage y stage is = record { origin = refl; own = λ origin. is.own r; heard = λ u path t off. is.heard r u path t off }
 
 module _ (net : PlainNet) (p : PlainPrefix) (old new : Part) (one two : PlainConfig) (is : IsRollout net p old new one two) (apart : AreApart net p old new) (r : ℕ) where
-  old_is : IsBetween net p old new r old
+  unfoldable pub old_is : IsBetween net p old new r old
   old_is = record {
     flipped = false;
     has_old = true;
@@ -72,7 +72,7 @@ module _ (net : PlainNet) (p : PlainPrefix) (old new : Part) (one two : PlainCon
     new_none = λ e. lacks net p old new apart.other r;
   }
 
-  first_is : IsBetween net p old new r (staged old one)
+  unfoldable pub first_is : IsBetween net p old new r (staged old one)
   first_is = record {
     flipped = false;
     has_old = true;
@@ -85,7 +85,7 @@ module _ (net : PlainNet) (p : PlainPrefix) (old new : Part) (one two : PlainCon
     new_none = λ e. absurd (true≢false e);
   }
 
-  second_is : IsBetween net p old new r (staged new two)
+  unfoldable pub second_is : IsBetween net p old new r (staged new two)
   second_is = record {
     flipped = true;
     has_old = true;
@@ -98,7 +98,7 @@ module _ (net : PlainNet) (p : PlainPrefix) (old new : Part) (one two : PlainCon
     new_none = λ e. absurd (true≢false e);
   }
 
-  new_is : IsBetween net p old new r new
+  unfoldable pub new_is : IsBetween net p old new r new
   new_is = record {
     flipped = true;
     has_old = false;

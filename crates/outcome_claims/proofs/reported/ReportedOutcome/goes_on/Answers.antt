@@ -3,7 +3,8 @@ use Rattle.std.specs.Prelude.{◌&&◌}
 use Rattle.std.specs.List.{list_any}
 use Rattle.list_law.proofs.Positions.{list_any-no_position}
 use Rattle.net_base.specs.Network.{joins}
-use Rattle.outcome_claims.specs.Offers.{case_in, told_pairs}
+use Rattle.outcome_claims.specs.Offers.{told_pairs}
+use Rattle.outcome_claims.specs.Reported.{case_in}
 use Rattle.outcome_claims.proofs.Marking.{mark_is}
 use Rattle.outcome_claims.proofs.reported.ReportedOutcome.goes_on.Goals as goal
 

@@ -1,0 +1,4 @@
+mod Layered
+mod Premises
+mod Prefs
+mod Safe

@@ -1,0 +1,81 @@
+-- What holds of a change of policy while the network runs.
+use Rattle.std.specs.Prelude.{ℕ, Bool, List, Option}
+use Rattle.net_base.specs.Network.{PlainNet, IsNet}
+use Rattle.net_base.specs.Prefixes.{PlainPrefix, IsPrefix}
+use Rattle.policy_base.specs.Policies.{IsPolicyOf}
+use Rattle.config_base.specs.declared.route.Route.{Route}
+use Rattle.evidence_base.specs.Made.{PlainCaseEvidence}
+use Rattle.evidence_law.specs.Passes.{Passes}
+use Rattle.evidence_renewal.specs.Renewed.{IsRenewal}
+use Rattle.event_base.specs.Steps.{IsQuiet}
+use Rattle.event_law.specs.Scenarios.{IsScenarioOf}
+use Rattle.outcome_base.specs.Outcomes.{Failures}
+use Rattle.rollout_base.specs.Lines.{AreApart}
+use Rattle.rollout_base.specs.Mixtures.{Change, Mixture, Part, Running, after, begins}
+use Rattle.rollout_mixtures.specs.Between.{IsBetween, IsAbove}
+use Rattle.rollout_mixtures.specs.Laws.{ComesToAnEnd}
+use Rattle.rollout_mixtures.specs.Layered.{AreLayers}
+use Rattle.rollout_rest.specs.Rollouts.{IsSafeRollout}
+use Rattle.renewal_law.specs.Change.{Announce, IsChange, TakesOver}
+use Rattle.renewal_law.specs.Phases.{AreIn, IsMarked, Phase, part_at, stage_one, stage_two}
+
+-- how a network stands that began so, after a list of events and loads
+abbrev pub stands : PlainNet → (ℕ → Bool) → PlainPrefix → Mixture → List Change → Running
+stands net says p m es = after net says p es (begins net says p m)
+
+-- ---- at every moment, and at the end
+
+-- From its first load to its last a change is safe, for every prefix,
+abbrev pub ChangesAreSafe : Type 0
+ChangesAreSafe =
+    (net : PlainNet) (p : PlainPrefix) (old new : Part) → IsChange net old new → IsPrefix p
+    → IsSafeRollout net p old new (stage_one old new) (stage_two old new)
+
+-- and so is the way back, over the same stages.
+abbrev pub ChangesLeadBack : Type 0
+ChangesLeadBack =
+    (net : PlainNet) (p : PlainPrefix) (old new : Part) → IsChange net old new → IsPrefix p
+    → IsSafeRollout net p new old (stage_two old new) (stage_one old new)
+
+-- ---- in between
+
+-- The evidence of a renewed configuration passes, and it may take over from the old one.
+abbrev pub RenewalsTakeOver : Type 0
+RenewalsTakeOver =
+    (net : PlainNet) (old new : Part) (ds : List PlainCaseEvidence) → IsNet net → IsPolicyOf net new.policy
+    → IsRenewal net new.policy old.config new.config ds → Passes net new.policy new.config ds × TakesOver old new
+
+-- Then of each prefix the tags are apart, and each preference that a new line gives is above each that an old one gives;
+abbrev pub ChangesAreApart : Type 0
+ChangesAreApart = (net : PlainNet) (p : PlainPrefix) (old new : Part) → IsChange net old new → TakesOver old new → AreApart net p old new
+
+abbrev pub ChangesAreAbove : Type 0
+ChangesAreAbove = (net : PlainNet) (p : PlainPrefix) (old new : Part) → TakesOver old new → IsAbove net p old new
+
+-- in each phase a router is between old and new, with the starts and the lines of its phase.
+abbrev pub PhasesAreBetween : Type 0
+PhasesAreBetween =
+    (net : PlainNet) (p : PlainPrefix) (old new : Part) → IsChange net old new → TakesOver old new → IsPrefix p
+    → (r : ℕ) (phase : Phase) → (is : IsBetween net p old new r (part_at old new phase)) × IsMarked phase is
+
+-- So messages come to an end, whatever was run and loaded before, and in whichever phases the routers are now, as long as nobody loads any more.
+abbrev pub ChangesComeToRest : Type 0
+ChangesComeToRest =
+    (net : PlainNet) (says : ℕ → Bool) (p : PlainPrefix) (old new : Part) (m : Mixture) (es : List Change) (phase : ℕ → Phase)
+    → IsChange net old new → TakesOver old new → IsPrefix p → Announce net p old new says → AreIn old new phase (stands net says p m es).runs
+    → ComesToAnEnd net says p (stands net says p m es).runs (stands net says p m es).world
+
+-- What routers hold, each in its phase, is of two layers: the settled outcome of the new side, and that of the old side.
+pub record IsLayered (net : PlainNet) (p : PlainPrefix) (old new : Part) (phase : ℕ → Phase) (m : Mixture) (f : Failures)
+    (routes : ℕ → Option Route) : Type 0 where
+  pub between : (r : ℕ) → IsBetween net p old new r (m r)
+  pub marked : (r : ℕ) → IsMarked (phase r) (between r)
+  pub layers : AreLayers net p old new m between f routes
+
+-- It is so where no message waits, and f is what has failed.
+abbrev pub RestingChangesAreLayered : Type 0
+RestingChangesAreLayered =
+    (net : PlainNet) (says : ℕ → Bool) (p : PlainPrefix) (old new : Part) (m : Mixture) (es : List Change) (phase : ℕ → Phase) (f : Failures)
+    → IsChange net old new → TakesOver old new → IsPrefix p → Announce net p old new says → AreIn old new phase (stands net says p m es).runs
+    → IsScenarioOf net (stands net says p m es).world f → IsQuiet (stands net says p m es).world
+    → IsLayered net p old new phase (stands net says p m es).runs f (stands net says p m es).world.route
