@@ -25,32 +25,37 @@ const NO_STAGES = {
   between: "There are no stages from the policy that runs to this one:",
 };
 
-/** What the program says of the policy that runs and of the stages; `fault` is why there are none. */
-const held = { report: null, steps: null, fault: null };
+/** What the program says: the routes of the policy that runs, and the steps between two policies; `fault` is why there are none. */
+const held = { report: null, before: "", policy: "", steps: null, fault: null };
+
+const isEdited = () => chosen.policy !== running.policy;
+const isHeld = () => held.before === running.policy && held.policy === chosen.policy;
 
 /** What is said of a command that writes nothing. Only a verdict has words. */
 const faultOf = (said) => ({ ...said, place: null, of: said.words ? NO_STAGES[said.command] : "There is no answer:" });
 
-const isEdited = () => chosen.policy !== running.policy;
-
-async function askChange(policy) {
+/** The stages are the same whatever has failed. */
+async function askStages(before, policy) {
+  if (isHeld() && held.steps) return;
   dropBlocks();
-  if (!isEdited()) {
-    Object.assign(held, { report: null, steps: null, fault: null });
-    return;
-  }
-  const [old, said] = await Promise.all([api.ask("replay", running.policy, scenario(), "runs"), api.change(running.policy, policy)]);
-  if (!old || !said || (said.status < 0 && !said.error)) return; // a newer question has taken its place
-  held.report = old.status === 0 ? reportOf(old.output) : null;
-  held.steps = said.status === 0 ? said.steps : null;
-  held.fault = said.status ? faultOf(said) : null;
+  const said = await api.change(before, policy);
+  if (!said || (said.status < 0 && !said.error) || before !== running.policy || policy !== chosen.policy) return; // it is of an earlier text
+  Object.assign(held, { before, policy, steps: said.steps ?? null, fault: said.status ? faultOf(said) : null });
   show();
 }
 
-const stepTo = (stage) => held.steps?.find(({ to }) => to === stage);
+async function askBefore(before) {
+  const said = await api.ask("replay", before, scenario(), "before");
+  if (!said) return;
+  held.report = said.status === 0 ? reportOf(said.output) : null;
+  show();
+}
+
+const stepTo = (stage) => (isHeld() ? held.steps?.find(({ to }) => to === stage) : undefined);
 
 /** Whose paths are others. Ranks of two policies aren't compared. */
 function changes() {
+  if (!isEdited()) return [];
   const way = (standing) => (standing?.path.length ? standing.path.join(" ") : standing?.state);
   return changesFrom(held.report).filter(({ old, now }) => way(old) !== way(now));
 }
@@ -92,12 +97,18 @@ function loadsShown({ load }) {
   ];
 }
 
+function routesSaid(changed) {
+  if (!held.report || !answers.report) return "There are no routes to compare.";
+  if (!changed.length) return "No path changes under these failures.";
+  return `${many(changed.length, "path changes", "paths change")} under these failures. Ranks count each policy's own alternatives.`;
+}
+
 function nothingSaid() {
   if (!isEdited()) return "Edit the policy: then this shows how a running network goes over to it, stage by stage.";
   if (answers.fault) return "The edited policy isn't accepted.";
   if (!chosen.prefix) return "Choose a prefix.";
-  if (held.fault) return "There are no stages to show. Why stands below the policy.";
-  return held.steps ? "" : "Asking …";
+  if (isHeld() && held.fault) return "There are no stages to show. Why stands below the policy.";
+  return isHeld() ? "" : "Asking …";
 }
 
 function list(changed) {
@@ -109,9 +120,7 @@ function list(changed) {
     text(SAID[chosen.stage]), step ? loadsShown(step) : null,
     askedBlock(TITLES[chosen.stage]),
     head("Routes, before and after"),
-    text(changed.length ? `${many(changed.length, "path changes", "paths change")} under these failures. Ranks count each policy's own alternatives.`
-      : "No path changes under these failures."),
-    changeRows(changed),
+    text(routesSaid(changed)), changeRows(changed),
   ];
 }
 
@@ -125,10 +134,10 @@ export const change = {
   name: "change",
   said: "Change",
   held,
-  asks: (policy) => [askReport(policy), askChange(policy)],
+  asks: (policy) => [askReport(policy), ...(isEdited() ? [askBefore(running.policy), askStages(running.policy, policy)] : [])],
   forget: () => { held.report = null; },
-  fault: () => (isEdited() ? held.fault : null),
+  fault: () => (isEdited() && isHeld() ? held.fault : null),
   changes, paint, list, told,
-  legend: () => (held.steps ? [
+  legend: () => (isEdited() && held.steps ? [
     el("b", { class: "sign" }, "· · ▸ path before"), legendKey("something to load", "var(--node)", "var(--warn)")] : []),
 };
