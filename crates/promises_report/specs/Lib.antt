@@ -5,7 +5,6 @@ pub mod Laws
 pub mod Promises
 pub mod Standings
 pub mod Groups
-pub mod Counting
-pub mod Taking
-pub mod Cases
+pub mod Texts
+pub mod Written
 pub mod Taken

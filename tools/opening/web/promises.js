@@ -47,10 +47,8 @@ function groupShown(group, prefixOf) {
 const uncarriedShown = (list) => el("div", { class: "say lint" }, el("p", { class: "line" }, `uncarried: ${list.join(", ")}`),
   el("p", {}, "Originated, and governed by no statement: no router but the origins has a route."));
 
-const partTold = ({ pattern, prefix }) => (pattern.split(" ")[0] === prefix ? pattern : `${pattern} in ${prefix}`);
 const openShown = (list) => el("div", { class: "say lint" },
-  grouped(list, ({ number }) => number).map((parts) =>
-    el("p", { class: "line" }, `open in case ${parts[0].number}: ${some(parts.map(partTold), 8)}`)),
+  list.map(({ pattern, prefix, number }) => el("p", { class: "line" }, `open ${pattern} in ${prefix} case ${number}`)),
   el("p", {}, "A peer that announces one of these is believed: packets for the originated prefix go to it."));
 
 let shown = null;

@@ -54,14 +54,10 @@ function noteCase(each, words) {
   else if (kind === "unused") each.unused.push(...names.filter(isEnd));
 }
 
-// A part of an `open` line: a pattern, and the originated prefix that it is inside of where that isn't its own.
-const PART = /([^ ]+)( le [0-9]+)?(?: in ([^ ]+))?/g;
-
-/** The patterns inside originated prefixes that peers are believed in, and their case. */
+/** A pattern inside an originated prefix that peers are believed in, and the case. */
 function openOf(line) {
-  const [parts, number] = line.slice(5).split(" case ");
-  return [...parts.matchAll(PART)].map(([, base, upto, prefix]) =>
-    ({ pattern: base + (upto ?? ""), prefix: prefix ?? base, number: Number(number) }));
+  const [pattern, rest] = line.slice(5).split(" in "), [prefix, , number] = rest.split(" ");
+  return { pattern, prefix, number: Number(number) };
 }
 
 /**
@@ -81,7 +77,7 @@ export function promisesOf(text) {
     } else if (kind === "prefix") line.slice(7).match(WORD).forEach((word, at) => group[at].prefixes.push(...word.split(",")));
     else if (kind === "origin") words.slice(1).forEach((word, at) => group[at].origins.push(...word.split(",")));
     else if (kind === "uncarried") uncarried.push(...words.slice(1));
-    else if (kind === "open") open.push(...openOf(line));
+    else if (kind === "open") open.push(openOf(line));
     else if (kind === "cases") last = line;
     else group.forEach((each) => noteCase(each, words));
   }
