@@ -18,7 +18,7 @@ use Rattle.renewal_law.proofs.Prefs.{taken_pref}
 
 pub renewals_take_over : RenewalsTakeOver
 renewals_take_over net old new ds rules kept is =
-    let over = record {
+    let over : TakesOver old new = record {
       apart = apart net new.policy old.config new.config ds rules is;
       above = above net new.policy old.config new.config ds rules kept.rules kept.routers is;
     } in
