@@ -2,7 +2,6 @@
 import os
 import re
 import shutil
-import signal
 import subprocess
 import tempfile
 import unittest
@@ -82,7 +81,7 @@ class Install(unittest.TestCase):
         self.assertEqual((status, said.splitlines()[-1]), (0, "expectations 1 failed 0: asked replay 1 whatif 0"))
 
     def test_page(self):
-        """The page of a network is served by what is installed, and an interrupt ends it."""
+        """The page of a network is served by what is installed, until it is ended."""
         words = [os.path.join(self.prefix, "bin", "propane"), "open", *TWO]
         with subprocess.Popen(words, stdin=subprocess.DEVNULL, stdout=subprocess.PIPE, env={"PATH": os.environ["PATH"]}, text=True) as page:
             try:
@@ -91,7 +90,7 @@ class Install(unittest.TestCase):
                     with urllib.request.urlopen(address + name, timeout=60) as answer:
                         self.assertEqual(answer.status, 200)
             finally:
-                page.send_signal(signal.SIGINT)
+                page.terminate()
                 page.stdout.read()
         self.assertEqual(page.returncode, 0)
 
