@@ -54,12 +54,14 @@ def shown(address: str) -> Iterator[None]:
 
 def sleep() -> NoReturn:
     """Sleeps until a signal ends the page. The system may let any thread hear it, and Python then acts in this one, but wakes it by a
-    byte alone: a mere pause would go on."""
+    byte alone: a mere pause would go on. Where another thread takes its turn just then, Python may miss it once, so it looks every second."""
     ear, mouth = socket.socketpair()
+    ear.settimeout(1)
     mouth.setblocking(False)
     signal.set_wakeup_fd(mouth.fileno())
     while True:
-        ear.recv(1)
+        with contextlib.suppress(TimeoutError):
+            ear.recv(1)
 
 
 def stopped(number: int, frame: FrameType | None) -> NoReturn:
