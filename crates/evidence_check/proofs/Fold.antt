@@ -178,20 +178,22 @@ module _ (net : PlainNet) (policy : PlainPolicy) (cs : List PlainCaseEvidence) w
             | inr ge ↦ let same_k : suc j ≡ k = omega (arith, le, ge) in subst (IsListed net policy cs) same_k there
           ]
 
-      -- the evidence has another case there, or none, or a limit is passed
-      pub differs : (e : PlainCaseEvidence) → slice_get cs j ≡ Some e → (e.case ≡ c → (steps : ℕ) → IsWithinRoom net policy c room steps → ⊥)
-          → IsLeastFault net policy cs (record { case = j + 1; fault = record { rule = Cases; first = 0; second = 0 } })
-      differs e in_cs past = unlisted (λ listed.
+      -- the evidence has another case there, or none
+      pub other_case : ((e : PlainCaseEvidence) → slice_get cs j ≡ Some e → e.case ≡ c → ⊥) → IsLeastFault net policy cs (record { case = j + 1; fault = record { rule = Cases; first = 0; second = 0 } })
+      other_case off = unlisted (λ listed.
           let here = subst (IsListed net policy cs) number_next listed in
-          let same = same_Some e.case c (sym (ap (option_map (λ (x : PlainCaseEvidence). x.case)) in_cs) ∙ here.same ∙ in_list) in
-          let last = within_last net policy all_steps room (take j list) c are.within (subst (AreWithin net policy all_steps) cut listed.within) in
-          past same last.0 last.1)
+          let found = there (slice_get cs j) (here.same ∙ in_list) in
+          off found.0 found.1 found.2)
+        where
+          there : (o : Option PlainCaseEvidence) → option_map (λ (x : PlainCaseEvidence). x.case) o ≡ Some c → (e : PlainCaseEvidence) × (o ≡ Some e) × (e.case ≡ c)
+          there None at = absurd cc
+          there (Some e) at = (e, refl, same_Some e.case c at)
 
-      pub missing : length cs ≤ j → IsLeastFault net policy cs (record { case = j + 1; fault = record { rule = Cases; first = 0; second = 0 } })
-      missing past = unlisted (λ listed.
-          let here = subst (IsListed net policy cs) number_next listed in
-          let off = sym (ap (option_map (λ (x : PlainCaseEvidence). x.case)) (slice_get_past cs j past)) ∙ here.same ∙ in_list in
-          cc)
+      -- a limit is passed there
+      pub past_limits : ((steps : ℕ) → IsWithinRoom net policy c room steps → ⊥) → IsLeastFault net policy cs (record { case = j + 1; fault = record { rule = Cases; first = 0; second = 0 } })
+      past_limits past = unlisted (λ listed.
+          let last = within_last net policy all_steps room (take j list) c are.within (subst (AreWithin net policy all_steps) cut listed.within) in
+          past last.0 last.1)
 
     pub too_many : (e : PlainCaseEvidence) → slice_get cs j ≡ Some e → length list ≤ j → IsLeastFault net policy cs (record { case = j + 1; fault = record { rule = Cases; first = 0; second = 0 } })
     too_many e in_cs past = unlisted (λ listed.

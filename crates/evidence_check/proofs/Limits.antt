@@ -13,10 +13,13 @@ use Rattle.walk_states.proofs.OneGraph.{no_more_states, one-graph}
 use Rattle.graph_law.specs.Limits.{IsBuiltWithin}
 use Rattle.graph_law.proofs.Counted.{built_walked, count_steps}
 use Rattle.evidence_law.specs.Passes.{AreWithin}
+use Rattle.case_core.specs.declared.refusal.CompileRefusal.{CompileRefusal}
+use Rattle.case_core.specs.declared.refusal.CompileRefusal.TheVariants.{MixedSource, NoEvidence, NoMemory, SourceWithoutPath, TooManyRanks, TooManyStates, TooManySteps}
+use Rattle.case_core.specs.Refusals.{IsCause, IsPastLimit}
 use Rattle.evidence_check.specs.Listed.{AreWithinTo, IsWithin, IsWithinRoom}
 
 -- what is counted is what is built
-pub walked_steps : (net : PlainNet) (plan : Plan) (g : PlainGraph) (steps : ℕ) → IsBuilt net plan g → IsWalked net plan steps → steps ≡ length g.steps
+walked_steps : (net : PlainNet) (plan : Plan) (g : PlainGraph) (steps : ℕ) → IsBuilt net plan g → IsWalked net plan steps → steps ≡ length g.steps
 walked_steps net plan g steps built walked =
     let xs = walked.standings in
     let same = one-graph net plan g (graph_over net plan xs) built (xs, walked.are, refl) in
@@ -27,7 +30,7 @@ one_count net plan m n one other =
     let xs = other.standings in
     walked_steps net plan (graph_over net plan xs) m (xs, other.are, refl) one ∙ sym (walked_steps net plan (graph_over net plan xs) n (xs, other.are, refl) other)
 
-pub not_too_many : (net : PlainNet) (plan : Plan) (steps : ℕ) → PassesStates net plan NODES → IsWalked net plan steps → ⊥
+not_too_many : (net : PlainNet) (plan : Plan) (steps : ℕ) → PassesStates net plan NODES → IsWalked net plan steps → ⊥
 not_too_many net plan steps many walked =
     let xs = walked.standings in
     no_more_states net plan (graph_over net plan xs) NODES (xs, walked.are, refl) (omega (arith, length-map xs (node_of net plan), walked.few)) many
@@ -35,6 +38,19 @@ not_too_many net plan steps many walked =
 -- what is built within the limits is within them
 pub built_within : (net : PlainNet) (room : ℕ) (s : PlainStatement) (c : Case) (g : PlainGraph) → IsBuiltWithin net room s c g → IsWithin net s c room (length g.steps)
 built_within net room s c g within = record { ranks = within.ranks; walked = built_walked net room s c g within; fits = within.steps }
+
+-- a case that is refused for a limit isn't within the limits
+module _ (net : PlainNet) (number room : ℕ) (s : PlainStatement) (c : Case) where
+  pub past_limit : (e : CompileRefusal) → IsPastLimit e → (e ≡ NoMemory → ⊥) → IsCause net number room s c e → (steps : ℕ) → IsWithin net s c room steps → ⊥
+  past_limit (TooManyRanks k count) past other cause steps within = absurd (omega (arith, within.ranks, cause.1))
+  past_limit (TooManyStates k) past other cause steps within = not_too_many net (plan_for net s c) steps cause.2 within.walked
+  past_limit (TooManySteps k) past other cause steps within =
+      let same = walked_steps net (plan_for net s c) cause.2.0 steps cause.2.1 within.walked in
+      absurd (omega (arith, same, within.fits, cause.2.3))
+  past_limit NoMemory past other cause steps within = other refl
+  past_limit (SourceWithoutPath k r) past other cause steps within = past
+  past_limit (MixedSource k r with without) past other cause steps within = past
+  past_limit (NoEvidence k g r) past other cause steps within = past
 
 -- ---- cases one after the other
 

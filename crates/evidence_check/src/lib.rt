@@ -2,10 +2,11 @@
 //! place where it does.
 //!
 //! What is asked stands in `evidence_verdicts`. The cases are gone over in order, with the room for steps that the earlier
-//! ones leave (`cases_fault`). Each has to be the policy's case of its number, within the limits. Then its live graph is
-//! built and trimmed by what the policy says, and the evidence's own graph is compared with it: walks, ranks (`walk_check`)
-//! and preference numbers (`preference_check`). Of all cases the fault is kept whose rule comes first. Tags are judged where
-//! no rule on cases fails (`tag_fault`), and the configuration where they are right too.
+//! ones leave (`cases_fault`). Each has to be the policy's case of its number, within the limits. Its live graph is made of
+//! what the policy says, as it is for the compiler (`case_core`), and one automaton serves all cases of a statement. The
+//! evidence's own graph is compared with the live one: walks, ranks (`walk_check`) and preference numbers
+//! (`preference_check`). Of all cases the fault is kept whose rule comes first. Tags are judged where no rule on cases fails
+//! (`tag_fault`), and the configuration where they are right too.
 //!
 //! A configuration is judged by its text. The one that is made of the evidence is made and printed, and both texts are
 //! compared byte by byte, since a configuration has one text. So a text that is right is never read (`check_text`). Where
@@ -15,7 +16,7 @@
 //!
 //! `check` and `audit` alone need it.
 //!
-//! It knows nothing of the compiler, or of texts other than that of a configuration.
+//! It knows nothing of how numbers and tags are found, or of texts other than that of a configuration.
 #![tactic(auto)]
 
 mod case_rules;
@@ -30,6 +31,5 @@ mod verdict;
 
 pub use case_rules::{Fault, case_fault};
 pub use cases::{CaseFault, cases_fault};
-pub use listed::within_limits;
 pub use tags::{CaseNode, tag_fault};
 pub use verdict::{check, check_text};

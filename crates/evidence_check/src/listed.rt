@@ -1,92 +1,79 @@
 //! The rule of cases, for one case at a time.
-ghost use Rattle.std.specs.Prelude.{◌≡◌, ◌<◌, ◌≤◌, ℕ, IfNone, IfOk, IfSome, IsErrOf, length};
-ghost use Rattle.policy_base.specs.declared.limits.TheConstants.{ALTERNATIVES};
-ghost use Rattle.path_exprs.specs.declared.limits.TheConstants.{NODES};
-ghost use Rattle.policy_base.specs.Meaning.{alternative_count};
-ghost use Rattle.policy_base.specs.Policies.{plain_statement, ranking_of};
-ghost use Rattle.path_exprs.specs.Forward.{expressions};
-ghost use Rattle.path_exprs.specs.Standings.{PassesStates, plan_of};
-ghost use Rattle.walk_states.specs.Built.{IsBuilt};
-ghost use Rattle.graph_law.specs.Limits.{IsBuiltWithin};
+ghost use Rattle.std.specs.Prelude.{◌≡◌, ◌≢◌, ◌<◌, ◌≤◌, ℕ, IfNone, IfOk, IfSome, None, OnOk, Some, length, slice_get};
+ghost use Rattle.policy_base.specs.declared.case.Case.{Case as PlainCase};
+ghost use Rattle.policy_base.specs.Cases.{case_list};
+ghost use Rattle.policy_base.specs.CaseNumbers.{OfCase};
+ghost use Rattle.policy_base.specs.Policies.{policy_of};
+ghost use Rattle.evidence_base.specs.Made.{PlainCaseEvidence};
+ghost use Rattle.case_core.specs.Automata.{AllFit};
+ghost use Rattle.case_core.specs.Refusals.{IsGraphOf};
+ghost use Rattle.case_core.specs.declared.refusal.CompileRefusal.TheVariants.{NoMemory as OutOfMemory};
 ghost use Rattle.evidence_check.specs.Listed.{IsWithin};
 
 use crate::same::is_same_case;
-use constraint_expand::{ExpandFault, expand};
-use graph_base::Graph;
+use case_core::{CaseGraph, CompileRefusal, KeptAutomata, graph_within_limits};
+use evidence_base::CaseEvidence;
 use input_output::NoMemory;
 use net_base::Net;
-use path_automata::Automata;
-use path_exprs::RankedExpr;
-use policy_base::{Case, FromSet, Statement};
+use policy_base::{Case, CaseList, Policy};
 use std::alloc::Global;
-use walk_states::{StandingsFault, standings};
 
-// The expressions of a statement's alternatives, or None where there are too many.
-fn expanded(alloc: Global, net: &Net, statement: &Statement) -> Result<Option<RankedExpr>, NoMemory>
-    ensures ranks { IfOk result (λ o. IfSome o (λ _. alternative_count (ranking_of statement.now.ranked) ≤ ALTERNATIVES)) }
-    ensures expressions { IfOk result (λ o. IfSome o (λ r. r ≡ expressions net.now (ranking_of statement.now.ranked))) }
-    ensures many { IfOk result (λ o. IfNone o (ALTERNATIVES < alternative_count (ranking_of statement.now.ranked))) }
+// The evidence for the case at a place of the list, or None where there is none, or where it is for another case.
+pub(crate) fn evidence_at<'a>(
+    cases: &[Case],
+    evidence: &'a [CaseEvidence],
+    place: usize,
+) -> Option<&'a CaseEvidence>
+    requires { place < length cases.now }
+    ensures here { IfSome result (λ found. slice_get evidence.now place ≡ Some found.now) }
+    ensures same { IfSome result (λ found. slice_get cases.now place ≡ Some found.now.case) }
+    ensures differs { IfNone result ((c : PlainCase) (e : PlainCaseEvidence) → slice_get cases.now place ≡ Some c → slice_get evidence.now place ≡ Some e → e.case ≢ c) }
 {
-    match expand(alloc, &statement.ranked, net) {
-        Ok(ranked) => Ok(Some(ranked)),
-        Err(ExpandFault::TooManyRanks(_)) => Ok(None),
-        Err(ExpandFault::NoMemory) => Err(NoMemory),
+    if place >= evidence.len() {
+        return None;
+    }
+    let found = &evidence[place];
+    if is_same_case(found.case(), &cases[place]) {
+        Some(found)
+    } else {
+        None
     }
 }
 
-// The graph over the standings of a case, by an automaton of its own, or that there are too many of these.
-fn gathered(
-    alloc: Global,
-    net: &Net,
-    case: &Case,
-    from: &FromSet,
-    ranked: &RankedExpr,
-) -> Result<Graph, StandingsFault>
-    ensures built { IfOk result (λ g. IsBuilt net.now (plan_of ranked.now from.now case.now) g) }
-    ensures few { IfOk result (λ g. length g.nodes ≤ NODES) }
-    ensures many { IsErrOf result StandingsFault.TooMany → PassesStates net.now (plan_of ranked.now from.now case.now) NODES }
+// A limit is passed, unless memory was refused.
+fn past_limit(refusal: &CompileRefusal) -> Result<(), NoMemory>
+    ensures { OnOk result (refusal.now ≢ OutOfMemory) }
 {
-    let automata = Automata::new(alloc, ranked, net)?;
-    let (graph, _) = standings(alloc, net, case, from, automata)?;
-    Ok(graph)
-}
-
-// The graph over the standings of a case, or None where there are too many of these or too many steps.
-fn walked(
-    alloc: Global,
-    net: &Net,
-    case: &Case,
-    statement: &Statement,
-    ranked: &RankedExpr,
-    room: u32,
-) -> Result<Option<Graph>, NoMemory>
-    requires ranks { alternative_count (ranking_of statement.now.ranked) ≤ ALTERNATIVES }
-    requires expressions { ranked.now ≡ expressions net.now (ranking_of statement.now.ranked) }
-    ensures built { IfOk result (λ o. IfSome o (λ g. IsBuiltWithin net.now room (plain_statement statement.now) case.now g)) }
-    ensures past { IfOk result (λ o. IfNone o ((steps : ℕ) → ¬ IsWithin net.now (plain_statement statement.now) case.now room steps)) }
-{
-    match gathered(alloc, net, case, &statement.from, ranked) {
-        Ok(graph) if graph.steps().len() > room as usize => Ok(None),
-        Ok(graph) => Ok(Some(graph)),
-        Err(StandingsFault::TooMany) => Ok(None),
-        Err(StandingsFault::NoMemory) => Err(NoMemory),
+    match refusal {
+        CompileRefusal::NoMemory => Err(NoMemory),
+        _ => Ok(()),
     }
 }
 
-/// The graph over the standings of a case of a statement, or None where it is not within the limits on alternatives, on
-/// standings and on steps, for which there is so much room.
-pub fn within_limits(
+// The graph of the case with this number, from 1, or None where it is not within the limits on alternatives, on nodes and on
+// steps, for which there is so much room.
+pub(crate) fn within_limits(
     alloc: Global,
     net: &Net,
-    case: &Case,
-    statement: &Statement,
+    policy: &Policy,
+    cases: &CaseList,
+    number: u32,
     room: u32,
-) -> Result<Option<Graph>, NoMemory>
-    ensures built { IfOk result (λ o. IfSome o (λ g. IsBuiltWithin net.now room (plain_statement statement.now) case.now g)) }
-    ensures past { IfOk result (λ o. IfNone o ((steps : ℕ) → ¬ IsWithin net.now (plain_statement statement.now) case.now room steps)) }
+    kept: &mut KeptAutomata,
+) -> Result<Option<CaseGraph>, NoMemory>
+    requires cases { cases.now.cases ≡ case_list net.now (policy_of policy.now) }
+    requires from_one { 1 ≤ number }
+    requires within { number ≤ length cases.now.cases }
+    requires kept { AllFit net.now (policy_of policy.now) kept.old }
+    ensures graph { IfOk result (λ o. IfSome o (λ given. OfCase net.now (policy_of policy.now) number (λ s c. IsGraphOf net.now room s c given))) }
+    ensures past { IfOk result (λ o. IfNone o (OfCase net.now (policy_of policy.now) number (λ s c. (steps : ℕ) → ¬ IsWithin net.now s c room steps))) }
+    ensures kept { AllFit net.now (policy_of policy.now) kept.new }
 {
-    let Some(ranked) = expanded(alloc, net, statement)? else {
-        return Ok(None);
-    };
-    walked(alloc, net, case, statement, &ranked, room)
+    match graph_within_limits(alloc, net, policy, cases, number, room, kept) {
+        Ok(given) => Ok(Some(given)),
+        Err(refusal) => {
+            past_limit(&refusal)?;
+            Ok(None)
+        }
+    }
 }

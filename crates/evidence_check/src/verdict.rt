@@ -64,7 +64,7 @@ fn evidence_fault(
     ensures fails { IfOk result (λ o. IfSome o (λ verdict. verdict ≢ Holds)) }
 {
     let list = cases(alloc, net, policy)?;
-    if let Some(found) = cases_fault(alloc, net, policy, list.cases.as_slice(), evidence)? {
+    if let Some(found) = cases_fault(alloc, net, policy, &list, evidence)? {
         return Ok(Some(of_case(found)));
     }
     if let Some(at) = tag_fault(alloc, net, evidence)? {
