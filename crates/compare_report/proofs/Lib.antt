@@ -1,4 +1,0 @@
-pub mod Borrowed
-pub mod RowsTold
-pub mod Telling
-mod Unchanged

@@ -11,7 +11,7 @@ use Rattle.comparison.specs.Changed.{is_changed}
 use Rattle.compare_report.specs.declared.carriers.Carrying.TheVariants.{Lost, Gained}
 use Rattle.compare_report.specs.Groups.{is_with, origin_lines, originated_prefixes, prefix_lines}
 use Rattle.compare_report.specs.Kinds.{all_kind_lines, carrier_lines}
-use Rattle.compare_report.specs.Parts.{number_text}
+use Rattle.compare_lines.specs.Rows.{number_text}
 
 unfoldable pub head_line : CasePair → List ℕ
 head_line c = codes "change statement " ++ number_text c.old.statement ++ codes " now " ++ number_text c.new.statement ++ codes "\n"

@@ -4,7 +4,6 @@ use Rattle.std.specs.List.{flat_map, list_any}
 use Rattle.std.specs.Option.{option_eq}
 use Rattle.std.proofs.Common.{Bor}
 use Rattle.net_base.specs.declared.loc.LocSet.{LocSet}
-use Rattle.net_base.specs.Locations.{numbers_below}
 use Rattle.net_base.specs.Network.{PlainNet}
 use Rattle.net_base.specs.Prefixes.{PlainPrefix, same_prefix}
 use Rattle.net_base.specs.Sets.{holds, same_set}
@@ -16,7 +15,7 @@ use Rattle.compare_base.specs.declared.cases.CasePair.{CasePair}
 use Rattle.compare_base.specs.declared.pairs.PairPrefixes.{PairPrefixes}
 use Rattle.compare_base.specs.declared.pairs.PairPrefixes.TheVariants.{Originated, Others}
 use Rattle.comparison.specs.declared.values.ComparedPair.{ComparedPair}
-use Rattle.compare_report.specs.Parts.{common_line, router_list, run_lines}
+use Rattle.compare_lines.specs.Prefixes.{common_line, run_lines}
 
 -- ---- groups
 
@@ -99,19 +98,6 @@ old_origins xs = with_old no_location xs
 
 abbrev pub new_origins : List ComparedPair → LocSet
 new_origins xs = with_new no_location xs
-
--- a line of routers, or of all but the others, where there are some
-abbrev pub routers_text : PlainNet → List ℕ → List ℕ → List ℕ → List ℕ
-routers_text net word [] others = []
-routers_text net word (r ∷ rs) others = word ++ router_list net (r ∷ rs) others ++ codes "\n"
-
--- a line of those of some routers at which something is so
-abbrev pub routers_line : PlainNet → List ℕ → (ℕ → Bool) → List ℕ → List ℕ
-routers_line net word is_here routers = routers_text net word (filter is_here routers) (filter (λ r. not (is_here r)) routers)
-
--- the routers of the network
-abbrev pub all_routers : PlainNet → List ℕ
-all_routers net = numbers_below (length net.routers)
 
 -- a line for the peers where they are the origins, in a network that has some
 abbrev pub peers_line : PlainNet → List ℕ → Option LocSet → List ℕ

@@ -16,8 +16,10 @@ use Rattle.compare_base.specs.declared.rows.Words.TheVariants.{Partly, Unclaimed
 use Rattle.comparison.specs.declared.values.ComparedPair.{ComparedPair}
 use Rattle.compare_report.specs.declared.carriers.Carrying.{Carrying}
 use Rattle.compare_report.specs.declared.carriers.Carrying.TheVariants.{Lost, Gained}
-use Rattle.compare_report.specs.Groups.{all_routers, part_lines, routers_line}
-use Rattle.compare_report.specs.Parts.{row_lines, session_list, sessions_of}
+use Rattle.compare_lines.specs.Lists.{all_routers, routers_line}
+use Rattle.compare_report.specs.Groups.{part_lines}
+use Rattle.compare_lines.specs.Rows.{row_lines}
+use Rattle.compare_lines.specs.Lists.{sessions_of}
 
 -- ---- the same kind at several pairs
 
@@ -68,10 +70,6 @@ router_places net xs = filter (is_router_place net xs) (all_routers net)
 -- the sessions are places of one of them
 abbrev pub have_sessions : List ComparedPair → Bool
 have_sessions xs = list_any (λ (x : ComparedPair). is_originated x.pair.cases) xs
-
-abbrev pub sessions_text : PlainNet → List (ℕ × ℕ) → List (ℕ × ℕ) → List ℕ
-sessions_text net [] others = []
-sessions_text net (session ∷ sessions) others = session_list net (session ∷ sessions) others ++ codes "\n"
 
 -- a line of the sessions at which something is so, where it is at some
 abbrev pub sessions_line : PlainNet → (ℕ × ℕ → Bool) → List ℕ

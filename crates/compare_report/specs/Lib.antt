@@ -1,4 +1,3 @@
 pub mod Changes
 pub mod Groups
 pub mod Kinds
-pub mod Parts

@@ -5,22 +5,10 @@ ghost use Rattle.indexmap.specs.IndexSet.{contains};
 ghost use Rattle.net_base.specs.Prefixes.{PlainPrefix, same_prefix};
 ghost use Rattle.compare_base.specs.Cases.{is_originated as originated_by};
 ghost use Rattle.comparison.specs.declared.values.ComparedPair.{ComparedPair as PlainPair};
-ghost use Rattle.compare_report.specs.Groups.{
-  fewer_lines,
-  is_among,
-  is_with as is_with_in,
-  move_alike as move_alike_in,
-  origins_stay as origins_stay_in,
-  part_lines,
-  seen,
-  prefix_lines,
-  prefixes_in,
-  same_group as same_group_in,
-  same_statements as same_statements_in,
-};
+ghost use Rattle.compare_report.specs.Groups.{fewer_lines, is_among, is_with as is_with_in, move_alike as move_alike_in, origins_stay as origins_stay_in, part_lines, seen, prefix_lines, prefixes_in, same_group as same_group_in, same_statements as same_statements_in};
 
-use crate::prefixes::{push_patterns, push_runs};
 use compare_base::{CasePair, PairPrefixes};
+use compare_lines::{push_patterns, push_runs};
 use comparison::ComparedPair;
 use indexmap::IndexSet;
 use input_output::NoMemory;

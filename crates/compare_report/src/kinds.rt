@@ -7,18 +7,7 @@ ghost use Rattle.policy_base.specs.Walks.{is_loop_free as loop_free};
 ghost use Rattle.compare_base.specs.declared.rows.Place.{Place as PlainPlace};
 ghost use Rattle.comparison.specs.declared.values.ComparedPair.{ComparedPair as PlainPair};
 ghost use Rattle.compare_report.specs.Groups.{seen};
-ghost use Rattle.compare_report.specs.Kinds.{
-  example_walks,
-  has_kind as has_kind_in,
-  has_place,
-  is_one,
-  same_kind as same_kind_in,
-  same_place,
-  same_row,
-  same_words as same_words_in,
-  walks_in as walks_of_kinds,
-  with_more_paths,
-};
+ghost use Rattle.compare_report.specs.Kinds.{example_walks, has_kind as has_kind_in, has_place, is_one, same_kind as same_kind_in, same_place, same_row, same_words as same_words_in, walks_in as walks_of_kinds, with_more_paths};
 
 use compare_base::{Kind, Place, Row, Words};
 use comparison::ComparedPair;

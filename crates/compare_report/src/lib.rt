@@ -4,8 +4,8 @@
 //! What is told is a list of pairs of cases, each with its prefixes and with what changes for these (`comparison`). `specs/Changes` is the text
 //! of such a list. Pairs of originated prefixes that have the same two statements, and whose origins change in the same way, are one change
 //! (`specs/Groups`): a fabric of a hundred racks then has one change and not a hundred. For each way in which places of these pairs differ,
-//! by the same words and the same rows of ranks, it is told for which of the prefixes, for whom, and by which walks (`specs/Kinds`). A list of
-//! routers or sessions is told by those that are not in it where these are fewer.
+//! by the same words and the same rows of ranks, it is told for which of the prefixes, for whom, and by which walks (`specs/Kinds`). How prefixes,
+//! lists and rows are written is `compare_lines`.
 //!
 //! The code goes over the pairs in order, and tells a group at its first one. Within a group the places of pairs stand for the pairs
 //! themselves, so nothing is copied. Sets of prefixes and of places are looked up by their hashes.
@@ -25,11 +25,7 @@ mod laws;
 mod order;
 mod origins;
 mod places;
-mod prefixes;
-mod routers;
-mod rows;
 mod text;
 
 pub use laws::texts_tell_whether_something_changed;
-pub use rows::push_number_or_none;
 pub use text::compare_text;

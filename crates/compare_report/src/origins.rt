@@ -1,19 +1,10 @@
 //! The origins of a change. Each `push_` function adds a text to the end of another.
 ghost use Rattle.std.specs.Prelude.{◌≡◌, ◌++◌, OnOk};
-ghost use Rattle.compare_report.specs.Groups.{
-  kept_lines,
-  moved_lines,
-  new_origins as new_origins_of,
-  old_origins as old_origins_of,
-  origin_lines,
-  peers_line,
-  seen,
-  with_origins as with_origins_of,
-};
+ghost use Rattle.compare_report.specs.Groups.{kept_lines, moved_lines, new_origins as new_origins_of, old_origins as old_origins_of, origin_lines, peers_line, seen, with_origins as with_origins_of};
 
 use crate::groups::origins_stay;
-use crate::routers::push_set;
 use compare_base::CasePair;
+use compare_lines::push_set;
 use comparison::ComparedPair;
 use input_output::NoMemory;
 use net_base::{LocSet, Net};

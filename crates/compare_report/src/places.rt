@@ -5,26 +5,16 @@ ghost use Rattle.indexmap.specs.IndexSet.{contains};
 ghost use Rattle.policy_base.specs.Governing.{is_origin_by};
 ghost use Rattle.compare_base.specs.Cases.{is_place as is_place_of};
 ghost use Rattle.compare_base.specs.declared.rows.Place.{Place as PlainPlace};
-ghost use Rattle.compare_report.specs.Groups.{seen, routers_line};
-ghost use Rattle.compare_report.specs.Parts.{sessions_of as sessions_in};
-ghost use Rattle.compare_report.specs.Kinds.{
-  have_sessions as have_sessions_in,
-  is_carrier,
-  is_one,
-  is_router_place as is_router_place_in,
-  place_lines,
-  router_place,
-  router_places as router_places_in,
-  same_place,
-  session_place,
-  sessions_line,
-};
+ghost use Rattle.compare_report.specs.Groups.{seen};
+ghost use Rattle.compare_lines.specs.Lists.{routers_line};
+ghost use Rattle.compare_lines.specs.Lists.{sessions_of as sessions_in};
+ghost use Rattle.compare_report.specs.Kinds.{have_sessions as have_sessions_in, is_carrier, is_one, is_router_place as is_router_place_in, place_lines, router_place, router_places as router_places_in, same_place, session_place, sessions_line};
 
 use crate::carriers::{Carrying, carrier_set};
 use crate::groups::is_originated;
 use crate::kinds::place_set;
-use crate::routers::{RouterParts, push_routers, push_sessions, routers_of, sessions_of};
 use compare_base::{CasePair, Kind, Place};
+use compare_lines::{RouterParts, push_routers, push_sessions, routers_of, sessions_of};
 use comparison::ComparedPair;
 use indexmap::IndexSet;
 use input_output::NoMemory;

@@ -13,17 +13,7 @@ ghost use Rattle.compare_report.specs.Changes.{
   lines_from,
 };
 ghost use Rattle.compare_report.specs.Groups.{seen};
-ghost use Rattle.compare_report.specs.Kinds.{
-  all_kind_lines,
-  carrier_lines,
-  carrier_lines_of,
-  carriers_word,
-  kind_lines,
-  kind_lines_of,
-  kind_lines_unless,
-  words_text,
-  word_if,
-};
+ghost use Rattle.compare_report.specs.Kinds.{all_kind_lines, carrier_lines, carrier_lines_of, carriers_word, kind_lines, kind_lines_of, kind_lines_unless, words_text, word_if};
 
 use crate::carriers::{Carrying, some_carriers, split_by_carriers};
 use crate::groups::{group_of, is_with_some, push_parts, push_prefixes};
@@ -31,8 +21,8 @@ use crate::kinds::{example, some_has_kind, split_by_kind};
 use crate::order::originated;
 use crate::origins::push_origins;
 use crate::places::{push_carrier_places, push_places};
-use crate::rows::{push_number_or_none, push_rows};
 use compare_base::{CasePair, Kind, Words};
+use compare_lines::{push_number_or_none, push_rows};
 use comparison::{ComparedPair, has_changed};
 use input_output::NoMemory;
 use net_base::{Net, Prefix};

@@ -1,7 +1,0 @@
-use Rattle.std.proofs.Common.{◌≡◌, ◌++◌, take}
-use Rattle.std.specs.List.{flat_map}
-use Rattle.compare_report.specs.Parts.{common_line}
-use Rattle.compare_report.proofs.prefixes.push_patterns.Given as goal
-
-abbrev pub invariant-loop-common : goal.invariant-loop-common
-invariant-loop-common l = l.text.items ≡ l.initial.text.items ++ flat_map common_line (take l.common-index l.patterns)

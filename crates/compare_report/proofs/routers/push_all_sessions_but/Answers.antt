@@ -1,8 +1,0 @@
-use Rattle.std.proofs.Common.{◌++◌, ℕ, List, codes, ap, ◌∙◌, append_assoc}
-use Rattle.compare_report.specs.Parts.{but_text, session_names}
-use Rattle.compare_report.proofs.routers.push_all_sessions_but.Goals as goal
-
-pub returns : goal.returns
-returns c =
-    let but = but_text (session_names c.args.net.now) c.args.others.now in
-    c.in_ok-push_but_sessions.ensures ∙ ap (λ (t : List ℕ). t ++ but) c.in_ok-push_bytes.ensures ∙ append_assoc c.args.text.now.items (codes "all sessions") but
