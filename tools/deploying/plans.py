@@ -63,9 +63,9 @@ USED = {
 class Choices:
     """What all files of a network say besides maps and addresses.
 
-    `paths` is the most next hops that packets to a prefix are spread over, `ties` which of several routes is used. `originated` has the prefixes that each router originates, where
-    they are told: the maps say nothing of an origin at which no path of the policy ends. Files are `staged` where a running daemon
-    may take other ones of their kind, without a session going down.
+    `paths` is the most next hops that packets to a prefix are spread over, `ties` which of several routes is used. `originated` has
+    the prefixes that each router originates, where they are told: the maps say nothing of an origin at which no path of the policy
+    ends. Files are `staged` where a running daemon may take other ones of their kind, without a session going down.
     """
 
     paths: int = 1

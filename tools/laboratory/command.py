@@ -178,7 +178,8 @@ def rolled(words: argparse.Namespace, texts: Texts, topology: Topology, addresse
         raise Fault("--rollout: OpenBGPD has no staged files")
     plan = words.stages or os.path.join(folder, "plan")
     if words.rollout and not words.stages:
-        write_plan(lambda *asked: (0, propane(*asked)), texts.topology, (texts.policy, os.path.abspath(words.rollout)), texts.config, texts.evidence, plan)
+        policies = (texts.policy, os.path.abspath(words.rollout))
+        write_plan(lambda *asked: (0, propane(*asked)), texts.topology, policies, texts.config, texts.evidence, plan)
     rollout = Rollout.read(plan, topology, addresses, words.paths, Ties(words.ties))
     inputs = Inputs(folders.Described(topology, addresses, rollout.choices[Stage.OLD]), rollout.maps[Stage.OLD], {})
     deployed(inputs, kinds, None, os.path.join(folder, "deployed"))
@@ -187,10 +188,13 @@ def rolled(words: argparse.Namespace, texts: Texts, topology: Topology, addresse
     asked = list(dict.fromkeys(prefixes))
     own = {network.prefix for side in rollout.maps.values() for maps in side.routers.values() for network in maps.networks}
     network = Network(inputs, kinds, [prefix for prefix in asked if prefix not in own], os.path.join(folder, "run"))
-    say(f"routers {len(topology.routers)}, of them FRR {list(kinds.values()).count('frr')}, peers {len(topology.peers)}, links {len(topology.links)}, prefixes {len(asked)}")
+    of_frr = list(kinds.values()).count("frr")
+    said = f"routers {len(topology.routers)}, of them FRR {of_frr}, peers {len(topology.peers)}, links {len(topology.links)}"
+    say(f"{said}, prefixes {len(asked)}")
     network.lay()
     network.make(NOTHING)
-    sides = {side: Texts(texts.topology, *(rollout.text(side, name) for name in ("policy", "config", "evidence", "maps"))) for side in (Stage.OLD, Stage.NEW)}
+    names = ("policy", "config", "evidence", "maps")
+    sides = {side: Texts(texts.topology, *(rollout.text(side, name) for name in names)) for side in (Stage.OLD, Stage.NEW)}
     rolling = Rolling(network, rollout, sides, asked, folder, words.patience)
     return DIFFERS if roll(rolling, named or single_failures(topology, [""])[1:]) else AGREES
 

@@ -37,7 +37,7 @@ class Changed(Exception):
     """The file isn't as the page has seen it."""
 
 
-class Unwritten(Exception):
+class Unsaved(Exception):
     """The file can't be written."""
 
 
@@ -67,7 +67,7 @@ class PolicyFile:
             try:
                 self.replace(text.encode())
             except OSError as fault:
-                raise Unwritten from fault
+                raise Unsaved from fault
             self.text, self.seen, self.runs = text, mark(text.encode()), text
             return self.seen
 

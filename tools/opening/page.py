@@ -14,7 +14,7 @@ from texts.tokens import WORDS
 from words.places import Text
 
 from . import changing, places
-from .files import MOST_BYTES, Changed, PageFiles, PolicyFile, Unwritten
+from .files import MOST_BYTES, Changed, PageFiles, PolicyFile, Unsaved
 from .runner import COMMANDS, Runner
 
 MOST_WORD = 100  # letters of a name, a lane or a mark
@@ -147,5 +147,5 @@ class Page:
             return {"status": 0, "seen": self.policy.save(text_in(value, "policy"), text_in(value, "seen", MOST_WORD))}
         except Changed:
             raise Stopped(409, "changed") from None
-        except Unwritten:
+        except Unsaved:
             raise Stopped(500, "unwritten") from None

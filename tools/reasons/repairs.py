@@ -214,7 +214,8 @@ def one_source(setting: Setting) -> Maker:
                     yield ONE_SOURCE, setting.having(put(kept), names)
                     yield ONE_SOURCE, setting.having(setting.statement.expression, names)
     for line in setting.refusal.lines:
-        if line.router in setting.named_sources() and line.reason == "rank" and all(len(set(walk)) == len(walk) > 1 for walk in (line.first, line.second)):
+        are_paths = all(len(set(walk)) == len(walk) > 1 for walk in (line.first, line.second))
+        if line.router in setting.named_sources() and line.reason == "rank" and are_paths:
             fixed = [Call("path", tuple((name,) for name in walk)) for walk in (line.second, line.first)]
             yield ONE_SOURCE, setting.having(joined(RANKED, *fixed, ANY), (line.router,))
 

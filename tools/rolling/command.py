@@ -140,7 +140,8 @@ def run(given: Sequence[str], usage: str) -> int:
         change = change_of(words[1:] if is_shown else words[2:], options, room)
         if is_shown:
             for name in change.routers:
-                say(f"{name}: runs {' '.join(sorted((stage.value for stage in change.stages(name)), key=list(stages).index)) or 'none of the stages'}")
+                runs = sorted((stage.value for stage in change.stages(name)), key=list(stages).index)
+                say(f"{name}: runs {' '.join(runs) or 'none of the stages'}")
             return DONE
         names = list(words[6:]) or list(change.routers)
         for name in names:

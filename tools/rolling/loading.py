@@ -139,7 +139,8 @@ def old_lines(plan: Plan, has: Iterable[tuple[str, ...]]) -> Iterator[str]:
 def asked_of(words: tuple[str, ...], given: str | None = None) -> str:
     """Runs the words of a router, which may read something."""
     try:
-        ran = subprocess.run(words, input=given, stdin=None if given is not None else subprocess.DEVNULL, capture_output=True, text=True, timeout=SLOW)
+        stdin = None if given is not None else subprocess.DEVNULL
+        ran = subprocess.run(words, input=given, stdin=stdin, capture_output=True, text=True, timeout=SLOW)
     except (OSError, subprocess.TimeoutExpired) as why:
         raise Silent(str(why)) from None
     if ran.returncode:

@@ -9,6 +9,7 @@ TOOL = os.path.join(TOP, "tools", "believed")
 BELIEVED = tool("believed")
 KIT = BELIEVED.kit()
 SOURCES = BELIEVED.Sources(TOP, KIT)
+COUNTS = r"\d+ definitions?, \d+ lines? in \d+ files?"
 
 
 def kit_is_told():
@@ -43,7 +44,7 @@ class Believed(unittest.TestCase):
 
     def test_counts_of_the_documents(self):
         with open(os.path.join(TOP, "docs", "PROOFS.md"), encoding="utf-8") as file:
-            told = re.findall(r"`(\w+\.\w+)`: (\d+ definitions, \d+ lines in \d+ files)(?:; (\d+ definitions, \d+ lines in \d+ files) in crates of the kit)?", file.read())
+            told = re.findall(rf"`(\w+\.\w+)`: ({COUNTS})(?:; ({COUNTS}) in crates of the kit)?", file.read())
         self.assertTrue(told)
         for name, own, of_kit in told:
             found = reached(name)
