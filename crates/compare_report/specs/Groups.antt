@@ -15,6 +15,7 @@ use Rattle.compare_base.specs.declared.cases.CasePair.{CasePair}
 use Rattle.compare_base.specs.declared.pairs.PairPrefixes.{PairPrefixes}
 use Rattle.compare_base.specs.declared.pairs.PairPrefixes.TheVariants.{Originated, Others}
 use Rattle.comparison.specs.declared.values.ComparedPair.{ComparedPair}
+use Rattle.compare_lines.specs.Lists.{all_routers, routers_line}
 use Rattle.compare_lines.specs.Prefixes.{common_line, run_lines}
 
 -- ---- groups

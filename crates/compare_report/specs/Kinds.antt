@@ -16,10 +16,9 @@ use Rattle.compare_base.specs.declared.rows.Words.TheVariants.{Partly, Unclaimed
 use Rattle.comparison.specs.declared.values.ComparedPair.{ComparedPair}
 use Rattle.compare_report.specs.declared.carriers.Carrying.{Carrying}
 use Rattle.compare_report.specs.declared.carriers.Carrying.TheVariants.{Lost, Gained}
-use Rattle.compare_lines.specs.Lists.{all_routers, routers_line}
+use Rattle.compare_lines.specs.Lists.{all_routers, routers_line, sessions_of, sessions_text}
 use Rattle.compare_report.specs.Groups.{part_lines}
 use Rattle.compare_lines.specs.Rows.{row_lines}
-use Rattle.compare_lines.specs.Lists.{sessions_of}
 
 -- ---- the same kind at several pairs
 
