@@ -11,6 +11,7 @@ from texts.topology import Site, Topology
 from . import plain_yaml
 from .graph import Graph
 
+OUTSIDE = ("host", "mgmt-net", "macvlan")  # what stands in the place of a node that is none
 IMAGE = "quay.io/frrouting/frr:10.2.1"
 DAEMONS = "zebra=yes\nbgpd=yes\nstaticd=yes\nvtysh_enable=yes\nzebra_options=\"-A 127.0.0.1\"\nbgpd_options=\"-A 127.0.0.1\"\n"
 
@@ -33,15 +34,27 @@ def read(text: str) -> Graph:
         labels = part(node, "labels", dict) if isinstance(node, dict) else {}
         graph.node(name, attributes | {key: value for key, value in labels.items() if isinstance(value, str)})
     for place, link in enumerate(part(topology, "links", list), 1):
-        ends = link.get("endpoints") if isinstance(link, dict) else None
-        if not isinstance(ends, list) or len(ends) != 2 or not all(isinstance(end, str) for end in ends):
+        names = ends_of(link)
+        unknown = [name for name in names if name not in graph.nodes]
+        if len(names) == 1 or any(name in OUTSIDE for name in unknown):
+            graph.others.append(f"link {place} is left out: it leads to no other node")
+        elif not names:
             raise Fault(f"containerlab: link {place}: no two endpoints")
-        names = [end.partition(":")[0] for end in ends]
-        for name in names:
-            if name not in graph.nodes:
-                raise Fault(f"containerlab: link {place}: no node {name}")
-        graph.link(*names)
+        elif unknown:
+            raise Fault(f"containerlab: link {place}: no node {unknown[0]}")
+        else:
+            graph.link(*names)
     return graph
+
+
+def ends_of(link: Any) -> list[str]:
+    """The nodes at the ends of a link: each end is a text `NODE:INTERFACE`, or in the long form an object. A link that leads elsewhere has
+    one `endpoint`."""
+    if not isinstance(link, dict):
+        return []
+    ends = [link["endpoint"]] if "endpoint" in link else part(link, "endpoints", list)
+    names = [end.partition(":")[0] if isinstance(end, str) else part(end, "node", str) for end in ends]
+    return names if all(names) and len(names) == (1 if "endpoint" in link else 2) else []
 
 
 def interfaces(topology: Topology, addresses: Addresses) -> dict[tuple[str, str], str]:

@@ -2,6 +2,7 @@
 from __future__ import annotations
 
 import html
+import itertools
 import re
 
 from texts.faults import Fault
@@ -62,41 +63,56 @@ class Reader:
                 self.comes(",") or self.comes(";")
         return found
 
-    def statement(self) -> None:
-        """A node, edges, an attribute, or a graph inside, whose nodes count like the others."""
-        if self.here()[1].lower() in DRAWN and self.here()[0] == "word":
+    def is_drawn(self) -> bool:
+        """Takes what is of all that follow, or of the group itself, if that comes next."""
+        kind, text = self.here()
+        if kind == "word" and text.lower() in DRAWN and self.tokens[self.at + 1:self.at + 2] != [("sign", "=")]:
             self.at += 1
-            if self.comes("="):
-                self.name()
-            else:
-                self.attributes()
-            return
+            self.attributes()
+        elif kind in ("word", "quoted") and self.tokens[self.at + 1:self.at + 2] == [("sign", "=")]:
+            self.at += 2
+            self.name()
+        else:
+            return False
+        return True
+
+    def end(self) -> list[str]:
+        """The end of an edge: a node, or a group with all nodes in it."""
         if self.comes("subgraph") and self.here()[0] in ("word", "quoted"):
             self.name()
+            if self.here()[1] != "{":
+                return []
         if self.comes("{"):
-            self.statements()
-            if self.here()[0] == "edge":
-                raise Fault("Graphviz: an edge between groups isn't read here: write one edge for each pair")
-            return
-        ends = [self.name()]
-        if self.comes("="):
-            self.name()
-            return
+            return self.statements()
+        name = self.name()
+        self.graph.node(name)
+        return [name]
+
+    def statement(self) -> list[str]:
+        """A node, a group, edges, or what says how it is drawn; gives the nodes in it. An edge between groups links each pair."""
+        if self.is_drawn():
+            return []
+        is_node, ends = self.here()[1] != "{" and self.here()[1].lower() != "subgraph", [self.end()]
         while self.here()[0] == "edge":
             self.at += 1
-            ends.append(self.name())
+            ends.append(self.end())
         attributes = self.attributes()
-        if len(ends) == 1:
-            self.graph.node(ends[0], attributes)
-        for one, two in zip(ends, ends[1:]):
-            self.graph.link(one, two)
+        if is_node and len(ends) == 1:
+            self.graph.node(ends[0][0], attributes)
+        for ones, twos in zip(ends, ends[1:]):
+            for one, two in itertools.product(ones, twos):
+                self.graph.link(one, two)
+        return [name for names in ends for name in names]
 
-    def statements(self) -> None:
+    def statements(self) -> list[str]:
+        """What stands up to the brace that closes; gives the nodes in it, each once."""
+        found: dict[str, None] = {}
         while not self.comes("}"):
             if self.here()[0] == "end":
                 raise Fault("Graphviz: the text ends within braces")
             if not self.comes(";"):
-                self.statement()
+                found |= dict.fromkeys(self.statement())
+        return list(found)
 
 
 def read(text: str) -> Graph:

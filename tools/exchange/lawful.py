@@ -103,7 +103,7 @@ def links_of(graph: Graph, names: dict[str, str], peers: set[str], changes: list
 def topology_of(graph: Graph, patterns: Sequence[str]) -> Lawful:
     """The topology of a graph. `patterns` name peers besides, as a shell names files."""
     names = names_of(graph)
-    changes = [f"name {name!r} is now {lawful}" for name, lawful in names.items() if name != lawful]
+    changes = [f"name {name!r} is now {lawful}" for name, lawful in names.items() if name != lawful] + graph.others
     peers = {name for name, attributes in graph.nodes.items() if is_peer(name, attributes, patterns)}
     links = links_of(graph, names, peers, changes)
     for kind, count, most in (("routers", len(graph.nodes) - len(peers), MOST_ROUTERS), ("peers", len(peers), MOST_PEERS),

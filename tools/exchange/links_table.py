@@ -3,22 +3,29 @@ from __future__ import annotations
 
 import csv
 import io
+import re
 
 from texts.faults import Fault
 
 from .graph import Graph
 
-HEADS = {"a", "b", "from", "to", "source", "target", "node1", "node2", "end1", "end2", "local", "remote"}
+# Words at the head of a column, as far as they have letters and digits.
+HEADS = {"a", "b", "z", "aend", "bend", "zend", "from", "to", "source", "target", "src", "dst", "destination", "node1", "node2", "end1", "end2",
+         "nodea", "nodeb", "devicea", "deviceb", "local", "remote", "localdevice", "remotedevice", "sourcenode", "targetnode"}
 
 
 def read(text: str) -> Graph:
-    """The graph of a table. Commas, semicolons or tabs part its columns; a first row of words such as `source` and `target` is its head."""
+    """The graph of a table. Commas, semicolons or tabs part its columns. A first row of words such as `source` and `target` is its head,
+    which is told."""
     first = text.partition("\n")[0]
     sign = max(",;\t", key=first.count)
     graph = Graph()
     for place, row in enumerate(csv.reader(io.StringIO(text), delimiter=sign), 1):
         ends = [cell.strip() for cell in row[:2]]
-        if not any(ends) or place == 1 and all(end.lower() in HEADS for end in ends):
+        if not any(ends):
+            continue
+        if place == 1 and all(re.sub("[^a-z0-9]", "", end.lower()) in HEADS for end in ends):
+            graph.others.append(f"row 1 is taken for the head of the table: {' '.join(ends)}")
             continue
         if not ends[0]:
             raise Fault(f"row {place}: no name in the first column")

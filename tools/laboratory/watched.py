@@ -46,15 +46,16 @@ class Watching:
         return new
 
     def expect(self, what: str, *wanted: str) -> None:
-        """These lines come, in any order, within the time."""
-        ends, told = time.monotonic() + IN_TIME + EVERY, list[str]()
-        while not set(wanted) <= set(told) and time.monotonic() < ends:
+        """These lines come, in any order, within the time; how long that took is told."""
+        began, told = time.monotonic(), list[str]()
+        while not set(wanted) <= set(told) and time.monotonic() < began + IN_TIME + EVERY:
             if self.process.poll() is not None:
                 raise Broken(f"tools/watch has ended: {read(self.log)}")
             time.sleep(0.5)
             told += self.lines()
         lacking = [line for line in wanted if line not in told]
-        print(f"{what}: {'told' if not lacking else 'NOT TOLD: ' + '; '.join(lacking) + ' among ' + '; '.join(told)}", flush=True)
+        said = f"told in {time.monotonic() - began:.0f} s" if not lacking else f"NOT TOLD: {'; '.join(lacking)} among {'; '.join(told)}"
+        print(f"{what}: {said}", flush=True)
         self.faults += lacking
 
     def calm(self) -> None:

@@ -10,7 +10,6 @@ import tempfile
 import threading
 import webbrowser
 from collections.abc import Iterator
-from types import FrameType
 from typing import NoReturn
 
 from reasons.program import found
@@ -25,7 +24,6 @@ from .server import Server
 
 TOOLS = os.path.dirname(os.path.dirname(os.path.abspath(__file__)))
 WISHES = {"--save", "--browser"}
-ENDING = (signal.SIGINT, signal.SIGTERM, signal.SIGHUP)
 GO = ('<!doctype html><meta charset="utf-8"><meta name="referrer" content="no-referrer">'
       '<meta http-equiv="refresh" content="0;url={0}"><a href="{0}">the page</a>\n')
 
@@ -64,15 +62,8 @@ def sleep() -> NoReturn:
             ear.recv(1)
 
 
-def stopped(number: int, frame: FrameType | None) -> NoReturn:
-    """A signal ends the page, and no further one keeps it from ending."""
-    for each in ENDING:
-        signal.signal(each, signal.SIG_IGN)
-    raise KeyboardInterrupt
-
-
 def serve(page: Page, server: Server, wishes: set[str]) -> None:
-    """Says the address, and serves until an interrupt."""
+    """Says the address, and serves until a signal ends the script."""
     address = f"http://{server.host}/{page.secret}/"
     print(f"The page is at {address}\nWho knows this address can use it; an interrupt (Ctrl-C) ends it.", flush=True)
     if not page.runner.is_proved:
@@ -93,14 +84,9 @@ def main(arguments: list[str], usage: str) -> int:
     except Ended as ended:
         print(ended.line, file=sys.stderr)
         return ended.status
-    for number in ENDING:
-        if signal.getsignal(number) != signal.SIG_IGN:
-            signal.signal(number, stopped)
     try:
         with Server(page) as server, contextlib.closing(page.runner):
             serve(page, server, wishes)
-    except KeyboardInterrupt:
-        return DONE
     except OSError:
         return WRITE_FAULT
     return DONE

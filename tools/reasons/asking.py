@@ -12,19 +12,18 @@ from __future__ import annotations
 import functools
 import os
 import re
-import signal
 import sys
 import tempfile
 from collections.abc import Callable, Iterable, Iterator
 from dataclasses import dataclass
-from typing import Any, NoReturn
+from typing import Any
 
 from texts import policy
 from texts.cases import Case
 from texts.faults import Ended, Fault
 from texts.files import read_bytes
 from texts.policy import Policy, Statement
-from texts.statuses import BAD_INPUT, BY_SIGNAL, DONE, USAGE, WRITE_FAULT
+from texts.statuses import BAD_INPUT, DONE, USAGE, WRITE_FAULT
 from texts.topology import Topology
 
 from . import cases, costs, expressions, program as programs, refusals, repairs, words
@@ -217,11 +216,6 @@ def parts_of(program: Program, text: bytes) -> Iterator[Part]:
         yield repairs_of(case, program.tries // (len(refused) - number))
 
 
-def stopped(number: int, frame: Any) -> NoReturn:
-    """A signal ends the script as an interrupt does, so that its folder goes."""
-    raise SystemExit(BY_SIGNAL + number)
-
-
 class Unwritten(Exception):
     """The output takes nothing more."""
 
@@ -261,21 +255,18 @@ def outcome(arguments: list[str], usage: str, progress: Progress) -> tuple[int, 
         return DONE, f"why: stopped after {seconds()} seconds; more isn't known"
     except Unwritten:
         return WRITE_FAULT, ""
-    except KeyboardInterrupt:
-        return BY_SIGNAL + signal.SIGINT, ""
     return DONE, ""
 
 
 def main(arguments: list[str], usage: str) -> int:
     """What tools/why does; gives the status."""
-    for number in signal.SIGTERM, signal.SIGHUP:
-        if signal.getsignal(number) != signal.SIG_IGN:
-            signal.signal(number, stopped)
     if sys.stdout is None:
         return WRITE_FAULT
     progress = Progress("why")
-    status, line = outcome(arguments, usage, progress)
-    progress.clear()
+    try:
+        status, line = outcome(arguments, usage, progress)
+    finally:
+        progress.clear()
     if line and sys.stderr is not None:
         print(line, file=sys.stderr)
     return status

@@ -4,7 +4,6 @@ from __future__ import annotations
 import os
 import re
 import shutil
-import signal
 import subprocess
 import sys
 from collections.abc import Iterator, Mapping, Sequence
@@ -12,7 +11,7 @@ from collections.abc import Iterator, Mapping, Sequence
 from texts.faults import Ended, Fault
 from texts.files import read_bytes
 from texts.scenario import Pairs, read_scenario
-from texts.statuses import BAD_INPUT, BY_SIGNAL, DONE, NO_PROGRAM, USAGE, WRITE_FAULT
+from texts.statuses import BAD_INPUT, DONE, NO_PROGRAM, USAGE, WRITE_FAULT
 from texts.topology import Topology
 
 from .forms import BY_NAME, LINES, form_of
@@ -189,10 +188,7 @@ def main(arguments: Sequence[str], usage: str) -> int:
     """What tools/picture does; gives the status."""
     if sys.stdout is None:
         return WRITE_FAULT
-    try:
-        status, line = outcome(arguments, usage)
-    except KeyboardInterrupt:
-        return BY_SIGNAL + signal.SIGINT
+    status, line = outcome(arguments, usage)
     if line and sys.stderr is not None:
         print(line, file=sys.stderr)
     return status

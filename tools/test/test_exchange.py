@@ -17,7 +17,8 @@ EXAMPLES = [
      ["Zurich Bern", "Bern Genf", "Genf Zurich", "Zurich Provider", "Genf Provider"], "import: name 'Zürich' is now Zurich\n"),
     (["--peer", "ISP*", "links.csv"], {"core-1": 64512, "core-2": 64513, "edge-1": 64514}, {"ISP-A": 64496},
      ["core-1 core-2", "core-1 edge-1", "core-2 edge-1", "edge-1 ISP-A"],
-     "import: name 'edge 1' is now edge-1\nimport: link core-1 core-2 is left out: it is there already\n"),
+     "import: name 'edge 1' is now edge-1\nimport: row 1 is taken for the head of the table: source target\n"
+     "import: link core-1 core-2 is left out: it is there already\n"),
     (["lab.clab.yml"], {"r1": 64600, "r2": 64512}, {"isp": 64496}, ["r1 r2", "r2 isp"], ""),
     (["ring.graphml"], {"Oslo": 64512, "Bergen": 64513}, {"Carrier": 3356}, ["Oslo Bergen", "Bergen Carrier"], ""),
 ]
@@ -25,7 +26,7 @@ EXAMPLES = [
 WRONG = [
     ("x.dot", "table { }", "Graphviz: `graph` in the place of table"),
     ("x.dot", "graph { a -- b", "Graphviz: the text ends within braces"),
-    ("x.dot", "graph { {a b} -- c }", "an edge between groups isn't read here"),
+    ("x.dot", "graph { {a b} -- }", "Graphviz: a name in the place of }"),
     ("x.dot", "graph { a ! b }", "line 1: Graphviz has no '!' there"),
     ("x.dot", "graph " + "{" * 5000, "too many braces are open at once"),
     ("x.graphml", "<graph/>", "GraphML: the text isn't of that form"),
@@ -37,6 +38,16 @@ WRONG = [
     ("x.yml", "topology:\n\tnodes:\n", "line 2: YAML is indented by blanks"),
     ("x.txt", "", "the ending says of which form a text is"),
     ("x.csv", "".join(f"a{n},b{n}\n" for n in range(300)), "600 routers, and a topology has at most 512"),
+]
+# Texts by their ending, the links that are read, and what is told of what is left out.
+FORMS = [
+    ("x.gv", 'graph { rankdir=LR; "x" = y; s1 -- {t1 t2 -- t3}; {s1; s2} -- {l1 l2} -- subgraph q { e }; subgraph q; graph [a=b]; f [c=d] }',
+     ["t2 t3", "s1 t1", "s1 t2", "s1 t3", "s1 l1", "s1 l2", "s2 l1", "s2 l2", "l1 e", "l2 e"], ""),
+    ("x.csv", "A-End;Z-End;Speed\na;b;10\n", ["a b"], "import: row 1 is taken for the head of the table: A-End Z-End\n"),
+    ("x.yml", "topology:\n  nodes:\n    a:\n    b:\n  links:\n    - type: veth\n      endpoints:\n        - node: a\n          interface: eth1\n"
+     "        - {node: b, interface: eth1}\n    - type: host\n      endpoint:\n        node: a\n"
+     "    - endpoints: [b:eth2, mgmt-net:b-eth2]\n",
+     ["a b"], "import: link 2 is left out: it leads to no other node\nimport: link 3 is left out: it leads to no other node\n"),
 ]
 YAML = [
     ("a: 1\nb:\n- x\n- y: 'it''s'\n  z: \"q\"\nc: [1, {d: e}, \"f, g\"]\n", {"a": "1", "b": ["x", {"y": "it's", "z": "q"}], "c": ["1", {"d": "e"}, "f, g"]}),
@@ -73,6 +84,14 @@ class Exchange(unittest.TestCase):
                 self.assertEqual([" ".join(link) for link in made["links"]], links)
                 names = [self.write("topology.json", text), self.write("policy.propane", "true => any;\n")]
                 self.assertEqual(ended([PROGRAM, "lint", *names]), (0, "findings 0\n", ""))
+
+    def test_forms(self):
+        """What a form may have besides: edges between groups, the head of a table, links in the long form, and links to elsewhere."""
+        for name, text, links, told in FORMS:
+            with self.subTest(name):
+                status, out, said = self.tool("import", self.write(name, text))
+                self.assertEqual((status, said), (0, told))
+                self.assertEqual([" ".join(link) for link in json.loads(out)["links"]], links)
 
     def test_names(self):
         """Whatever the names are, the program takes what becomes of them; one that is lawful stays."""

@@ -1,10 +1,11 @@
-"""What the gate's scripts share: runs that ended as wanted, in a file."""
+"""What the gate's scripts share: runs that ended as wanted, in a file, and the runs of the lab."""
 import os
 import tempfile
 import unittest
 
 from common import TOP, ended
 from gate.kept import Kept, checksum
+from gate.lab_runs import MORE, RUNS, Right, Rolled
 
 
 class Runs(unittest.TestCase):
@@ -45,6 +46,16 @@ class Runs(unittest.TestCase):
         none = Kept(None)
         none.add("rollout", "aa")
         self.assertFalse(Kept(None).has("rollout", "aa"))
+
+    def test_runs_of_the_lab(self):
+        """Each has a name of its own, and names files that are there."""
+        names = [run.name for run in RUNS + MORE]
+        self.assertEqual(len(set(names)), len(names))
+        for run in RUNS + MORE:
+            files = [f"{name}.json" for name in ("topology", *getattr(run, "scenarios", ()))]
+            files += [f"{run.policy}.propane"] if isinstance(run, (Right, Rolled)) else []
+            here = os.path.join(TOP, "examples", run.example)
+            self.assertEqual([name for name in files if not os.path.exists(os.path.join(here, name))], [], run.name)
 
     def test_words(self):
         """A name that is none ends it before anything runs."""

@@ -6,10 +6,11 @@ import subprocess
 import tempfile
 import unittest
 import urllib.request
+import xml.etree.ElementTree as tree
 
 from common import PROGRAM, TOP, ended
 
-EXAMPLE = os.path.join(TOP, "examples", "two-exits")
+EXAMPLE, PROPOSAL = (os.path.join(TOP, "examples", name) for name in ("two-exits", "pipeline"))
 TWO = [os.path.join(EXAMPLE, "topology.json"), os.path.join(EXAMPLE, "policy.propane")]
 SYNTAX = "share/vim/vimfiles"
 POLICY = "# a comment\ndefine EDGE-1 = { E1, E2 };\n10.0.1.0/24 => avoid(any.1) and not exit(P >> Q);\n"
@@ -18,6 +19,13 @@ POLICY = "# a comment\ndefine EDGE-1 = { E1, E2 };\n10.0.1.0/24 => avoid(any.1) 
 def joined(text):
     """A text without what depends on where its lines end."""
     return re.sub(r"-? +", " ", " ".join(re.sub("-", "- ", text).split()))
+
+
+def pipelines():
+    """The pipelines of docs/PIPELINE.md: the name of each file, and the lines that it has a shell run."""
+    with open(os.path.join(TOP, "docs", "PIPELINE.md"), encoding="utf-8") as page:
+        blocks = re.findall(r"^```yaml\n# (\S+)\n(.*?)^```$", page.read(), re.DOTALL | re.MULTILINE)
+    return {name: re.findall(r"^ +(?:- )?(?:run: )?(propane.*)$", text, re.MULTILINE) for name, text in blocks}
 
 
 class Install(unittest.TestCase):
@@ -79,6 +87,26 @@ class Install(unittest.TestCase):
             file.write("198.51.100.0/24: R1 rank 1\n")
         status, said, _ = ended([os.path.join(self.prefix, "bin", "propane-expect"), *TWO, expected], env=environment)
         self.assertEqual((status, said.splitlines()[-1]), (0, "expectations 1 failed 0: asked replay 1 whatif 0"))
+
+    def test_pipelines(self):
+        """What the pipelines of PIPELINE run takes the proposed policy and stops at today's; the installation stands elsewhere meanwhile, as
+        in an image."""
+        moved = shutil.copytree(self.prefix, os.path.join(self.room.name, "an image"))
+        environment = {"PATH": os.path.join(moved, "bin") + os.pathsep + os.environ["PATH"]}
+        _, topology, _ = ended(["propane-import", os.path.join(PROPOSAL, "network.dot")], env=environment)
+        self.assertEqual(sorted(pipelines()), [".github/workflows/policy.yml", ".gitlab-ci.yml"])
+        for name, lines in pipelines().items():
+            self.assertEqual([line.split()[0] for line in lines], ["propane-expect", "propane", "propane", "propane-recheck"], name)
+            for policy, wanted, failures in ("proposed.propane", 0, "0"), ("policy.propane", 1, "2"):
+                with self.subTest(name, policy=policy), tempfile.TemporaryDirectory() as checkout:
+                    with open(os.path.join(checkout, "topology.json"), "w", encoding="utf-8") as file:
+                        file.write(topology)
+                    shutil.copy(os.path.join(PROPOSAL, policy), os.path.join(checkout, "policy.propane"))
+                    shutil.copy(os.path.join(PROPOSAL, "expected.txt"), checkout)
+                    status, said, _ = ended(["sh", "-e", "-c", "\n".join(lines)], cwd=checkout, env=environment)
+                    suite = tree.parse(os.path.join(checkout, "expected.xml")).getroot()
+                    self.assertEqual((status, suite.get("tests"), suite.get("failures")), (wanted, "3", failures), said)
+                    self.assertEqual(said.endswith("\nholds\n"), not wanted, said)
 
     def test_page(self):
         """The page of a network is served by what is installed, until it is ended."""

@@ -47,7 +47,7 @@ class Types(unittest.TestCase):
 
     def test_pyflakes(self):
         needed(PYFLAKES)
-        self.assertEqual(ended(["pyflakes3", *scripts()]), (0, "", ""))
+        self.assertEqual(ended(["pyflakes3", *scripts()], timeout=600), (0, "", ""))
 
 
 if __name__ == "__main__":

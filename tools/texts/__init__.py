@@ -2,6 +2,7 @@
 
     statuses     how the program ends, and the scripts that speak of it
     faults       what ends a script: a text that isn't what it is to be, or a run that can't go on
+    ending       signals that end a script
     files        files read and written
     json_text    JSON texts and strict objects; json_places reads them with the places of their values
     topology     routers, peers and links

@@ -87,13 +87,11 @@ def watch(words: argparse.Namespace, folder: str) -> int:
 
 
 def main(arguments: Sequence[str], usage: str) -> int:
-    """Watches until it is ended. Returns the status."""
+    """Watches until a signal ends the script, or for one round. Returns the status."""
     words = words_of(arguments, usage)
     try:
         with tempfile.TemporaryDirectory(prefix="propane-watch-") as folder:
             return watch(words, folder)
-    except KeyboardInterrupt:
-        return DONE
     except Ended as ended:
         sys.stderr.write(f"watch: the program says: {ended.line.removeprefix('propane: ')}\n")
         return ended.status
