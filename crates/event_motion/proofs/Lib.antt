@@ -2,5 +2,8 @@ pub mod Says
 pub mod Sends
 pub mod Picks
 pub mod Again
+pub mod Forgetting
+pub mod Downs
+pub mod Ups
 pub mod Steps
 pub mod Played

@@ -9,6 +9,8 @@
 //! - `proofs/Says`: what is said in both worlds is the same, and so is what is to be sent.
 //! - `proofs/Sends`: sending over some directions, one after another, is telling them all at once.
 //! - `proofs/Picks`: a router chooses the same in both. `proofs/Again`: so it does where several choose and send.
+//! - `proofs/Downs` and `proofs/Ups`: links and routers that go down and come up. `proofs/Forgetting`: what is left where the ends of a
+//!   session hear that it is gone.
 //! - `proofs/Steps`: event by event. `proofs/Played`: all of them.
 //!
 //! Compiling doesn't need it.
