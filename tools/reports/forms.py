@@ -73,7 +73,7 @@ transit    transit router {routers*}
 covered    covered
 unused     unused origin {routers*}
 uncarried  uncarried {prefixes*}
-open       open {pattern^} in {prefix} case {case#}
+open       open {parts/} case {case#}
 cases      cases {cases#} unclaimed {unclaimed#} transit {transit#} covered {covered#} unused {unused#} uncarried {uncarried#} open {open#}
 """
 FINDINGS = """

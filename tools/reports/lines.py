@@ -10,6 +10,8 @@
     {cases+}    an array of whole numbers
     {names,}    an array, with an array for each word: its parts, which stand behind commas; a part may be a prefix with ` le N`
     {pairs%}    an array of arrays of two words
+    {parts/}    an array of arrays of a pattern and the prefix that it is inside of, with commas between; the prefix stands there where it
+                isn't the pattern's own
     {rest$}     the rest of the line
     {prefix^}   a prefix, with ` le N` behind it where that stands there
     {state=a|b} one of these words
@@ -19,13 +21,14 @@ from __future__ import annotations
 import re
 from typing import Any, NamedTuple
 
-FIELD = re.compile(r"\{([a-z]+)([#?!~&*^+,%$]|=[a-z|-]+)?\}")
+FIELD = re.compile(r"\{([a-z]+)([#?!~&*^+,%$/]|=[a-z|-]+)?\}")
 NUMBER = "0|[1-9][0-9]*"
 PART = r"[^\s,]+(?: le [0-9]+)?"
 WORD = f"{PART}(?:,{PART})*"
+OPEN = rf"{PART}(?: in [^\s,]+)?"
 PATTERNS = {"": r"\S+", "#": NUMBER, "?": f"none|{NUMBER}", "!": f"none|rank (?:{NUMBER})", "~": "yes|no", "&": r"\S+ \S+",
             "*": r"\S+(?: \S+)*?", "^": r"\S+(?: le [0-9]+)?", "+": f"(?:{NUMBER})(?: (?:{NUMBER}))*", ",": rf"{WORD}(?: {WORD})*",
-            "%": r"\S+ \S+(?: \S+ \S+)*?", "$": ".+"}
+            "%": r"\S+ \S+(?: \S+ \S+)*?", "$": ".+", "/": f"{OPEN}(?:, {OPEN})*"}
 Fields = dict[str, Any]
 
 
@@ -49,6 +52,8 @@ class Field(NamedTuple):
             if self.sort == "%":
                 return [list(pair) for pair in zip(words[::2], words[1::2])]
             return [int(word) for word in words] if self.sort == "+" else words
+        if self.sort == "/":
+            return [part_of(part) for part in text.split(", ")]
         if self.sort == ",":
             return [word.split(",") for word in re.findall(WORD, text)]
         if self.sort == "~":
@@ -61,6 +66,8 @@ class Field(NamedTuple):
         """The part of a line that spells a value."""
         if self.sort in ("&", "*", "+"):
             return " ".join(map(str, value))
+        if self.sort == "/":
+            return ", ".join(pattern if pattern.split(" ")[0] == prefix else f"{pattern} in {prefix}" for pattern, prefix in value)
         if self.sort in (",", "%"):
             return " ".join(("," if self.sort == "," else " ").join(each) for each in value)
         if self.sort == "~":
@@ -76,8 +83,8 @@ class Field(NamedTuple):
         if self.sort in ("&", "*"):
             size = {"minItems": 2, "maxItems": 2} if self.sort == "&" else {"minItems": 1}
             return {"type": "array", "items": {"type": "string"}} | size
-        if self.sort in ("+", ",", "%"):
-            pair = {"minItems": 2, "maxItems": 2} if self.sort == "%" else {"minItems": 1}
+        if self.sort in ("+", ",", "%", "/"):
+            pair = {"minItems": 2, "maxItems": 2} if self.sort in ("%", "/") else {"minItems": 1}
             item = {"type": "integer", "minimum": 1} if self.sort == "+" else {"type": "array", "items": {"type": "string"}} | pair
             return {"type": "array", "items": item, "minItems": 1}
         if self.sort in ("#", "?", "!"):
@@ -118,6 +125,12 @@ class Form:
             return None
         line = "".join(part.write(fields[part.name]) if isinstance(part, Field) else part for part in self.parts)
         return line if self.pattern.fullmatch(line) else None
+
+
+def part_of(text: str) -> list[str]:
+    """A pattern, and the prefix that it is inside of: its own, where no other stands there."""
+    pattern, _, prefix = text.partition(" in ")
+    return [pattern, prefix or pattern.split(" ")[0]]
 
 
 def choice_of(sort: str) -> tuple[str, ...]:

@@ -10,8 +10,6 @@ use Rattle.policy_base.specs.declared.case.Case.{Case}
 use Rattle.policy_base.specs.Policies.{PlainPolicy}
 use Rattle.evidence_base.specs.Made.{PlainCaseEvidence}
 use Rattle.own_space.specs.declared.open_case.OpenCase.{OpenCase}
-use Rattle.own_space.specs.declared.open_part.OpenPart.{OpenPart}
-use Rattle.own_space.specs.Open.{open_parts}
 use Rattle.promises_report.specs.Promises.{Promises}
 use Rattle.promises_report.specs.Telling.{IsTold}
 use Rattle.promises_report.specs.declared.counts.Counts.{Counts}
@@ -19,8 +17,9 @@ use Rattle.promises_report.specs.declared.group.Group.{Group}
 use Rattle.promises_report.specs.Groups.{alone, groups_of, joined, rows_of}
 use Rattle.promises_report.specs.Places.{sessions_of}
 use Rattle.promises_report.specs.Standings.{Row, as_origin, as_session, as_source, row_of, session_row}
-use Rattle.promises_report.specs.Texts.{case_counts, counts_in, last_lines, no_counts, statements_text, sum_of, taking_case, taking_cases}
-use Rattle.promises_report.specs.Written.{AreTold, IsTextOf, TellsCase, TellsCases, cases_of}
+use Rattle.promises_report.specs.Taking.{taking_case, taking_cases}
+use Rattle.promises_report.specs.Cases.{AreTold, TellsCase, TellsCases, cases_of}
+use Rattle.promises_report.specs.Counting.{case_counts, counts_in, no_counts, sum_of}
 
 pub told_more : (net : PlainNet) (ds : List PlainCaseEvidence) (xs : List Promises) (d : PlainCaseEvidence) (a : Promises) → AreTold net ds xs
     → IsTold net d a → AreTold net (ds ++ d ∷ []) (xs ++ a ∷ [])
@@ -46,7 +45,7 @@ sum_none a = counts_same (sum_of a no_counts) (sum_of no_counts a) (omega arith)
 sum_assoc : (a b c : Counts) → sum_of a (sum_of b c) ≡ sum_of (sum_of a b) c
 sum_assoc a b c = counts_same (sum_of a (sum_of b c)) (sum_of (sum_of a b) c) (omega arith) (omega arith) (omega arith) (omega arith)
 
-abbrev case_of : PlainCaseEvidence → Case
+abbrev pub case_of : PlainCaseEvidence → Case
 case_of d = d.case
 
 module _ (net : PlainNet) (policy : PlainPolicy) where
@@ -159,20 +158,3 @@ module _ (net : PlainNet) (policy : PlainPolicy) where
           let test = λ (link : ℕ × ℕ). is_router net link.0 && is_peer net link.1 in
           let few = count_by-le-length test net.links in
           omega (arith, length-map (sessions_of net) (as_session a), length-filter test net.links, few)
-
-  -- ---- the whole
-
-  pub whole_text : (ds : List PlainCaseEvidence) (old mid new : List ℕ) (groups : List Group) (counts : Counts) (taking : List OpenCase) (parts : List OpenPart) (n : ℕ)
-      → old ≡ [] → TellsCases net policy ds groups counts taking → n ≡ length ds → parts ≡ open_parts policy taking
-      → mid ≡ old ++ statements_text net policy groups 1 policy.statements → new ≡ mid ++ last_lines policy n counts parts → IsTextOf net policy ds new
-  whole_text ds old mid new groups counts taking parts n none all size are first step =
-      let cs = cases_of ds in
-      let number : n ≡ length cs = size ∙ sym (length-map ds case_of) in
-      let told : mid ≡ statements_text net policy (groups_of net policy 1 cs (rows_of net cs all.promises) []) 1 policy.statements =
-      first ∙ ap₂ (λ (t : List ℕ) (gs : List Group). t ++ statements_text net policy gs 1 policy.statements) none all.groups_are in
-      let open_ones : parts ≡ open_parts policy (taking_cases net 1 cs all.promises) = are ∙ ap (open_parts policy) all.taking_are in
-      let last : last_lines policy n counts parts
-      ≡ last_lines policy (length cs) (counts_in net policy cs (rows_of net cs all.promises)) (open_parts policy (taking_cases net 1 cs all.promises)) =
-      ap₂ (λ (m : ℕ) (c : Counts). last_lines policy m c parts) number all.counts_are
-      ∙ ap (last_lines policy (length cs) (counts_in net policy cs (rows_of net cs all.promises))) open_ones in
-      record { promises = all.promises; told = all.told; spelled = step ∙ ap₂ (λ (x y : List ℕ). x ++ y) told last }

@@ -33,7 +33,7 @@ use Rattle.own_space.specs.Open.{number_of}
 use Rattle.own_space.proofs.Telling.{parts_are_what_is_open}
 use Rattle.promises_report.specs.Promises.{Promises}
 use Rattle.promises_report.specs.Taken.{AreAllPromises, IsTaken, PartsAreWhatIsTaken}
-use Rattle.promises_report.specs.Texts.{takes, taking_cases}
+use Rattle.promises_report.specs.Taking.{takes, taking_cases}
 
 -- ---- the cases in which some router takes what peers announce
 

@@ -5,6 +5,7 @@ pub mod Laws
 pub mod Promises
 pub mod Standings
 pub mod Groups
-pub mod Texts
-pub mod Written
+pub mod Counting
+pub mod Taking
+pub mod Cases
 pub mod Taken

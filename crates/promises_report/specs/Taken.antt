@@ -13,7 +13,7 @@ use Rattle.own_space.specs.Laws.{IsForPeers, TellsOf}
 use Rattle.own_space.specs.Open.{open_parts}
 use Rattle.own_space.specs.Spaces.{is_own}
 use Rattle.promises_report.specs.Promises.{ArePromises, Promises}
-use Rattle.promises_report.specs.Texts.{taking_cases}
+use Rattle.promises_report.specs.Taking.{taking_cases}
 
 -- the policy lets some router take the prefix from a peer: a walk that its statement permits ends with the two
 pub record IsTaken (net : PlainNet) (policy : PlainPolicy) (p : PlainPrefix) : Type 0 where

@@ -4,12 +4,12 @@ ghost use Rattle.std.specs.List.{list_any};
 ghost use Rattle.net_base.specs.Locations.{numbers_below};
 ghost use Rattle.own_space.specs.Covers.{covered_in};
 ghost use Rattle.policy_base.specs.Policies.{policy_of};
+ghost use Rattle.promises_report.specs.Cases.{HasOneStep, TellsCase};
 ghost use Rattle.promises_report.specs.Groups.{alone as alone_in};
 ghost use Rattle.promises_report.specs.Places.{sessions_of};
 ghost use Rattle.promises_report.specs.Standings.{row_of};
 ghost use Rattle.promises_report.specs.Telling.{promises_in};
-ghost use Rattle.promises_report.specs.Texts.{takes};
-ghost use Rattle.promises_report.specs.Written.{HasOneStep, TellsCase};
+ghost use Rattle.promises_report.specs.Taking.{takes};
 
 use crate::counts::{Counts, case_counts};
 use crate::group::Group;

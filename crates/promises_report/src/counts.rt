@@ -5,7 +5,7 @@ ghost use Rattle.net_base.specs.Locations.{in_order};
 ghost use Rattle.own_space.specs.Covers.{covered_in};
 ghost use Rattle.policy_base.specs.Policies.{policy_of, statement_at as plain_statement_at};
 ghost use Rattle.promises_report.specs.Standings.{is_wanted as is_wanted_in};
-ghost use Rattle.promises_report.specs.Texts.{
+ghost use Rattle.promises_report.specs.Counting.{
   case_counts as counts_of,
   is_named_by,
   is_named_peer as is_named_in,
@@ -14,7 +14,7 @@ ghost use Rattle.promises_report.specs.Texts.{
   names as names_in,
   promised_counts as promised_in,
 };
-ghost use Rattle.promises_report.specs.Written.{all_of, row_in};
+ghost use Rattle.promises_report.specs.Cases.{all_of, row_in};
 
 use crate::group::Group;
 use crate::standing::{Standing, Wanted, is_wanted};
@@ -36,8 +36,8 @@ pub struct Counts {
 
 impl Counts {
     ghost use Rattle.std.specs.Prelude.{◌≡◌, ◌+◌, ◌<◌};
-    ghost use Rattle.promises_report.specs.Texts.{no_counts, sum_of};
-    ghost use Rattle.promises_report.specs.Written.{all_of};
+    ghost use Rattle.promises_report.specs.Counting.{no_counts, sum_of};
+    ghost use Rattle.promises_report.specs.Cases.{all_of};
 
     /// None.
     pub(crate) fn none() -> Counts
@@ -86,7 +86,7 @@ fn is_named(policy: &Policy, number: u32, at: Loc) -> bool
 }
 
 /// Whether a location is a peer that the `from` of the statement with a number names.
-#[tactic(auto, unfolding(crate::specs::Texts::is_named_peer))]
+#[tactic(auto, unfolding(crate::specs::Counting::is_named_peer))]
 pub fn is_named_peer(net: &Net, policy: &Policy, number: u32, at: Loc) -> bool
     ensures { result ≡ is_named_in net.now (policy_of policy.now) number at }
 {
@@ -180,7 +180,7 @@ fn promised_counts(named: u64, case: &Case, group: &Group) -> Counts
 }
 
 /// How many of each kind a case has, whose group has no other. The marks tell which statements are covered.
-#[tactic(auto, unfolding(crate::specs::Texts::case_counts))]
+#[tactic(auto, unfolding(crate::specs::Counting::case_counts))]
 pub fn case_counts(net: &Net, policy: &Policy, case: &Case, group: &Group, marks: &[bool]) -> Counts
     requires routers { length group.now.routers ≤ 512 }
     requires origins { length group.now.origins ≤ 512 }

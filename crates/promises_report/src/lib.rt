@@ -1,5 +1,5 @@
-//! What a policy promises for each of its cases while nothing has failed, and its text: where the sources can be, the rank of
-//! each, who isn't claimed, and who only carries.
+//! What a policy promises for each of its cases while nothing has failed: where the sources can be, the rank of each, who
+//! isn't claimed, and who only carries.
 //!
 //! What is promised is said without a graph (`specs/Claims`, `specs/Promises`), and found in the graph of the case: its tops
 //! show it (`tops_tell_promises`). It is kept for every prefix of the case (`promises_are_kept`), and every claimed source
@@ -12,9 +12,8 @@
 //! `told_of`). At worst each case is compared with each before it; a policy has at most 4,352 cases, and mostly few that
 //! differ. That no case is told otherwise than by itself is `groups_tell_of_cases`.
 //!
-//! Ranks are told once a statement, as the policy prints them and not as its source has them: the text is made of the policy
-//! alone, and two policies that mean the same read alike. What peers are believed in inside own prefixes is found by
-//! `own_space`, and the law `parts_are_what_is_taken` says what it is.
+//! What peers are believed in inside own prefixes is found by `own_space`, and the law `parts_are_what_is_taken` says what it
+//! is.
 //!
 //! `promises` alone needs it.
 //!
@@ -22,27 +21,25 @@
 #![tactic(auto)]
 
 mod case;
+mod cases;
 mod counts;
 mod group;
-mod last;
-mod lines;
 mod places;
 mod promises;
 mod row;
 mod standing;
 mod telling;
-mod text;
 mod told;
 mod words;
 
-pub use counts::Counts;
-pub use group::Group;
+pub use cases::{ToldCases, tell_cases};
+pub use counts::{Counts, is_covered, is_named_peer};
+pub use group::{Group, entry};
 pub use places::sessions_of;
 pub use promises::{
     claimed_sources_have_ranks, groups_tell_of_cases, parts_are_what_is_taken, promises_are_kept,
     tops_tell_promises,
 };
-pub use standing::Standing;
+pub use standing::{Standing, Wanted, is_wanted};
 pub use telling::told_of;
-pub use text::promises_text;
 pub use told::Told;

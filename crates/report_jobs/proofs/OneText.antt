@@ -22,7 +22,9 @@ use Rattle.promises_report.specs.Places.{sessions_of}
 use Rattle.promises_report.specs.Standings.{Row, as_origin, as_session, as_source, end_of, row_of, standing_of}
 use Rattle.own_space.specs.declared.open_case.OpenCase.{OpenCase}
 use Rattle.own_space.specs.Open.{open_parts}
-use Rattle.promises_report.specs.Texts.{counts_in, last_lines, statements_text, takes, taking_case, taking_cases}
+use Rattle.promises_report.specs.Counting.{counts_in}
+use Rattle.promises_report.specs.Taking.{takes, taking_case, taking_cases}
+use Rattle.promises_text.specs.Texts.{last_lines, statements_text}
 use Rattle.report_jobs.specs.Promised.{IsPromisesText}
 
 -- ---- what is promised at a place is one thing
@@ -134,7 +136,7 @@ module _ (net : PlainNet) (policy : PlainPolicy) where
       let same = all_same 1 cs x.promises y.promises (x.size ∙ sym y.size) each in
       let whole = ap₂ (λ (rs : List Row) (ts : List OpenCase).
       statements_text net policy (groups_of net policy 1 cs rs []) 1 policy.statements
-      ++ last_lines policy (length cs) (counts_in net policy cs rs) (open_parts policy ts)) same.rows same.taking in
+      ++ last_lines policy (length cs) (counts_in net policy cs rs) ts (open_parts policy ts)) same.rows same.taking in
       x.spelled ∙ whole ∙ sym y.spelled
     where
       each : Same (case_list net policy) x.promises y.promises

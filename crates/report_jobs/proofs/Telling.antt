@@ -15,9 +15,10 @@ use Rattle.promises_report.specs.Promises.{Promises}
 use Rattle.promises_report.proofs.Keeping.{promises_are_kept}
 use Rattle.promises_report.proofs.PromisesTelling.{tops_tell_promises}
 use Rattle.promises_report.specs.Telling.{IsTold}
-use Rattle.promises_report.specs.Texts.{promises_text}
+use Rattle.promises_text.specs.Texts.{promises_text}
 use Rattle.promises_report.proofs.Casing.{told_size}
-use Rattle.promises_report.specs.Written.{AreTold, HaveOneStep, IsTextOf}
+use Rattle.promises_report.specs.Cases.{AreTold, HaveOneStep}
+use Rattle.promises_text.specs.Written.{IsTextOf}
 use Rattle.report_jobs.specs.Promised.{IsOfCase, IsPromisesText}
 
 told_at : (net : PlainNet) (ds : List PlainCaseEvidence) (xs : List Promises) (k : ℕ) (d : PlainCaseEvidence) (a : Promises) → AreTold net ds xs

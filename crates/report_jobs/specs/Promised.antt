@@ -11,7 +11,7 @@ use Rattle.config_base.specs.Lines.{class_of}
 use Rattle.evidence_base.specs.Made.{PlainCaseEvidence}
 use Rattle.compile_jobs.specs.Compiling.{SaysOfCompiled}
 use Rattle.promises_report.specs.Promises.{AreKept, ArePromises, Promises}
-use Rattle.promises_report.specs.Texts.{promises_text}
+use Rattle.promises_text.specs.Texts.{promises_text}
 use Rattle.input_texts.specs.Texts.{OfTwoTexts}
 use Rattle.run_base.specs.Said.{Said}
 

@@ -10,7 +10,7 @@
 //! | `waiting` | events | `event_core` | `waiting_report` |
 //! | `drain`, `whatif` | a scenario | `drain_report`, `whatif_report` | the same, `impact_report` |
 //! | `multipath` | a scenario | `multipath_report` | the same |
-//! | `impact`, `promises` | none | `impact_report`, `promises_report` | the same |
+//! | `impact`, `promises` | none | `impact_report`, `promises_text` | the same |
 //!
 //! A command here is an `Answer` of `compile_jobs`: that crate reads the texts, compiles, and reports faults and refusals in one way; what is
 //! left is to say what the command writes of a network, a policy, the third text and what was compiled. They are one crate since they differ in

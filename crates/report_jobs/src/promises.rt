@@ -10,7 +10,7 @@ use compile_jobs::compiled_evidence_for;
 use input_texts::{net_of, policy_for};
 use net_base::{Net, known_net};
 use policy_base::Policy;
-use promises_report::promises_text;
+use promises_text::promises_text;
 use run_base::Stop;
 use std::alloc::Global;
 

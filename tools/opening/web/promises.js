@@ -47,8 +47,10 @@ function groupShown(group, prefixOf) {
 const uncarriedShown = (list) => el("div", { class: "say lint" }, el("p", { class: "line" }, `uncarried: ${list.join(", ")}`),
   el("p", {}, "Originated, and governed by no statement: no router but the origins has a route."));
 
+const partTold = ({ pattern, prefix }) => (pattern.split(" ")[0] === prefix ? pattern : `${pattern} in ${prefix}`);
 const openShown = (list) => el("div", { class: "say lint" },
-  list.map(({ pattern, prefix, number }) => el("p", { class: "line" }, `open ${pattern} in ${prefix} case ${number}`)),
+  grouped(list, ({ number }) => number).map((parts) =>
+    el("p", { class: "line" }, `open ${some(parts.map(partTold), 8)} case ${parts[0].number}`)),
   el("p", {}, "A peer that announces one of these is believed: packets for the originated prefix go to it."));
 
 let shown = null;

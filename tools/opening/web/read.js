@@ -54,10 +54,13 @@ function noteCase(each, words) {
   else if (kind === "unused") each.unused.push(...names.filter(isEnd));
 }
 
-/** A pattern inside an originated prefix that peers are believed in, and the case. */
+/** The patterns inside originated prefixes that peers are believed in, and their case. A prefix is the pattern's own where none stands there. */
 function openOf(line) {
-  const [pattern, rest] = line.slice(5).split(" in "), [prefix, , number] = rest.split(" ");
-  return { pattern, prefix, number: Number(number) };
+  const [parts, number] = line.slice(5).split(" case ");
+  return parts.split(", ").map((part) => {
+    const [pattern, prefix] = part.split(" in ");
+    return { pattern, prefix: prefix ?? pattern.split(" ")[0], number: Number(number) };
+  });
 }
 
 /**
@@ -77,7 +80,7 @@ export function promisesOf(text) {
     } else if (kind === "prefix") line.slice(7).match(WORD).forEach((word, at) => group[at].prefixes.push(...word.split(",")));
     else if (kind === "origin") words.slice(1).forEach((word, at) => group[at].origins.push(...word.split(",")));
     else if (kind === "uncarried") uncarried.push(...words.slice(1));
-    else if (kind === "open") open.push(openOf(line));
+    else if (kind === "open") open.push(...openOf(line));
     else if (kind === "cases") last = line;
     else group.forEach((each) => noteCase(each, words));
   }

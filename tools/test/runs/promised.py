@@ -134,4 +134,31 @@ source router A C rank 1
 uncarried 10.0.1.0/24 10.0.3.0/24 10.0.4.0/24
 cases 1 unclaimed 0 transit 0 covered 0 unused 0 uncarried 3 open 0
 """),
+    ("what peers are believed in inside the own space, a line for each case", ["promises"],
+     [TWO_EXITS, "originate 10.0.1.0/24 at R1; originate 10.0.2.0/24 at R2; 10.0.1.0/24 or 10.0.2.0/24 => internal;"
+      " 10.0.2.128/25 or 10.0.2.0/26 le 28 => exit(P1); true => exit(P2);"],
+     DONE, """\
+statement 1
+rank 1 internal
+case 1 2 statement 1
+prefix 10.0.1.0/24 10.0.2.0/24
+origin R1 R2
+source router R1 R2 rank 1
+unclaimed session R1 P1 R2 P2
+statement 2
+rank 1 exit(P1)
+case 3 statement 2
+prefix 10.0.2.128/25,10.0.2.0/26 le 28
+origin peers
+source router R1 R2 rank 1
+statement 3
+rank 1 exit(P2)
+case 4 statement 3
+prefix 0.0.0.0/0 le 32
+origin peers
+source router R1 R2 rank 1
+open 10.0.2.128/25 in 10.0.2.0/24, 10.0.2.0/26 le 28 in 10.0.2.0/24 case 3
+open 10.0.1.0/24 le 32, 10.0.2.0/24 le 32 case 4
+cases 4 unclaimed 0 transit 0 covered 0 unused 0 uncarried 0 open 4
+"""),
 ]

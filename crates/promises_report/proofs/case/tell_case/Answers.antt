@@ -5,8 +5,9 @@ use Rattle.promises_report.specs.declared.group.Group.{Group}
 use Rattle.promises_report.specs.Groups.{alone}
 use Rattle.promises_report.specs.Standings.{row_of}
 use Rattle.promises_report.specs.Telling.{promises_in}
-use Rattle.promises_report.specs.Texts.{case_counts, takes}
-use Rattle.promises_report.specs.Written.{row_in}
+use Rattle.promises_report.specs.Cases.{row_in}
+use Rattle.promises_report.specs.Counting.{case_counts}
+use Rattle.promises_report.specs.Taking.{takes}
 use Rattle.promises_report.proofs.Casing.{router_rows, session_rows}
 use Rattle.promises_report.proofs.case.tell_case.Goals as goal
 

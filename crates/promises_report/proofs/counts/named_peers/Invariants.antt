@@ -2,7 +2,7 @@ use Rattle.std.proofs.Common.{◌≡◌, ◌≤◌}
 use Rattle.std.specs.List.{count_by}
 use Rattle.net_base.specs.Locations.{numbers_below}
 use Rattle.policy_base.specs.Policies.{policy_of}
-use Rattle.promises_report.specs.Texts.{is_named_peer}
+use Rattle.promises_report.specs.Counting.{is_named_peer}
 use Rattle.promises_report.proofs.counts.named_peers.Given as goal
 
 abbrev pub invariant-loop-place : goal.invariant-loop-place

@@ -1,7 +1,8 @@
 use Rattle.std.proofs.Common.{◌<◌, List, inl, inr, length, refl, subst, sym}
 use Rattle.policy_base.specs.Policies.{policy_of}
 use Rattle.evidence_base.specs.Made.{PlainCaseEvidence}
-use Rattle.promises_report.specs.Written.{HaveOneStep, IsTextOf}
+use Rattle.promises_report.specs.Cases.{HaveOneStep}
+use Rattle.promises_text.specs.Written.{IsTextOf}
 use Rattle.report_jobs.proofs.Telling.{few_cases, one_step, promised}
 use Rattle.report_jobs.proofs.promises.promised_text.Goals as goal
 
