@@ -7,10 +7,15 @@ ghost use Rattle.compare_base.specs.Cases.{pair_for};
 ghost use Rattle.pair_changes.specs.Changes.{IsPairChange};
 ghost use Rattle.pair_changes.specs.Shown.{ShowsWalks};
 
+use crate::carriers::{Side, carriers_alone, routers_in};
+use crate::kinds::kinds_of;
+use crate::places::places_of;
+use crate::walks::shown_kinds;
 use compare_base::{CasePair, PairChange};
 use graph_base::Graph;
 use net_base::Net;
-use pair_graph::PairFault;
+use pair_graph::{PairFault, pair_graph};
+use place_rows::PlaceRows;
 use std::alloc::Global;
 
 /// What a pair of cases changes, and how many steps the graph of its pairs of nodes has.
@@ -37,4 +42,19 @@ pub fn pair_change(
     ensures room { IfOk result (λ given. given.used ≤ room) }
     ensures many { IsErrOf result PairFault.TooManySteps → PassesRoom old.now new.now room }
 {
+    let both = pair_graph(alloc, old, new, room)?;
+    let table = PlaceRows::new(alloc, old, new, &both)?;
+    let places = places_of(alloc, net, cases)?;
+    let kinds = kinds_of(alloc, &table, &places)?;
+    let before = routers_in(net, Side::Old, both.pairs.as_slice());
+    let after = routers_in(net, Side::New, both.pairs.as_slice());
+    let change = PairChange {
+        kinds: shown_kinds(alloc, &both, &table, &kinds)?,
+        lost: carriers_alone(alloc, net, cases, &before, &after)?,
+        gained: carriers_alone(alloc, net, cases, &after, &before)?,
+    };
+    Ok(ChangedPair {
+        change,
+        used: both.graph.steps().len() as u32,
+    })
 }

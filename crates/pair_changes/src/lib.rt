@@ -15,6 +15,13 @@
 //! It knows nothing of how graphs are made, or how a change is told.
 #![tactic(auto)]
 
+mod carriers;
 mod change;
+mod kinds;
+mod laws;
+mod places;
+mod walks;
+mod ways;
 
 pub use change::{ChangedPair, pair_change};
+pub use laws::{faithful_graphs_show_walks, no_graph_shows_no_walks};

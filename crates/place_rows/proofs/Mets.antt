@@ -1,0 +1,66 @@
+-- What is met, as one node or step follows another.
+use Rattle.std.proofs.Common.{◌≡◌, ℕ, ◌+◌, ◌<◌, Bool, true, false, List, [], ◌∷◌, ◌++◌, Vec, length, set, refl, sym, ap, ◌∙◌, subst, subst₂, append_assoc, arith, inl, inr, Some, None}
+use Rattle.std.specs.Prelude.{slice_get, filter, if◌then◌else◌}
+use Rattle.std.specs.Global.{Global}
+use Rattle.std.specs.List.{flat_map, position_or_len}
+use Rattle.std.proofs.lemmas.Bool.{cases_Bool}
+use Rattle.std.proofs.lemmas.List.{append-nil}
+use Rattle.std.proofs.lemmas.List.Elements.{filter-append}
+use Rattle.graph_base.specs.Graphs.{PlainGraph}
+use Rattle.pair_graph.specs.declared.pair.NodePair.{NodePair}
+use Rattle.compare_base.specs.declared.rows.Place.{Place}
+use Rattle.pair_rows.specs.declared.values.FirstRow.{FirstRow}
+use Rattle.pair_rows.specs.declared.values.Met.{Met}
+use Rattle.pair_rows.specs.Meetings.{AreFirst, is_at, met_if, mets_at, node_mets, row_at, same_place}
+use Rattle.pair_rows.proofs.NotedRows.{first_none}
+use Rattle.pair_rows.proofs.RowsMet.{place_is}
+use Rattle.place_rows.specs.Noted.{AreNoted, rows_for}
+use Rattle.place_rows.proofs.Order.{same_place_comm}
+use Rattle.place_rows.proofs.Tables.{rows_read, rows_set}
+
+-- what is met at a place, after one met more
+mets_more : (mets : List Met) (met : Met) (q : Place) → mets_at (mets ++ met ∷ []) q ≡ mets_at mets q ++ (if same_place met.place q then met ∷ [] else [])
+mets_more mets met q = filter-append (is_at q) mets (met ∷ [])
+
+module _ (mets : List Met) (met : Met) (keys : List Place) (rows : List (Vec FirstRow Global)) (size : length keys ≡ length rows) (noted : AreNoted mets keys rows)
+    (n : ℕ) (at : n ≡ position_or_len (same_place met.place) keys) (within : n < length rows) (v w : Vec FirstRow Global) where
+  -- the rows with the number of the place are those of the place
+  pub read_first : slice_get rows n ≡ Some v → AreFirst (mets_at mets met.place) v.items
+  read_first there = subst (λ xs. AreFirst (mets_at mets met.place) xs) (sym (rows_read met.place keys rows v n size at there)) (noted met.place)
+
+  module _ (first : AreFirst (mets_at mets met.place ++ met ∷ []) w.items) where
+    written : (q : Place) → rows_for keys (set rows n w) q ≡ (if same_place q met.place then w.items else rows_for keys rows q)
+    written q = rows_set met.place keys rows w n q size at within
+
+    -- so once one more is noted there, all places have the rows that are met
+    pub noted_more : AreNoted (mets ++ met ∷ []) keys (set rows n w)
+    noted_more q = elim (cases_Bool (same_place met.place q)) [
+      | inl t ↦
+          let is : met.place ≡ q = place_is met.place q t in
+          let here : AreFirst (mets_at mets q ++ met ∷ []) w.items = subst (λ (a : Place). AreFirst (mets_at mets a ++ met ∷ []) w.items) is first in
+          subst₂ (λ ms xs. AreFirst ms xs)
+          (sym (mets_more mets met q ∙ ap (λ b. mets_at mets q ++ (if b then met ∷ [] else [])) t))
+          (sym (written q ∙ ap (λ b. if b then w.items else rows_for keys rows q) (same_place_comm q met.place ∙ t)))
+          here
+      | inr t ↦
+          subst₂ (λ ms xs. AreFirst ms xs)
+          (sym (mets_more mets met q ∙ ap (λ b. mets_at mets q ++ (if b then met ∷ [] else [])) t ∙ append-nil (mets_at mets q)))
+          (sym (written q ∙ ap (λ b. if b then w.items else rows_for keys rows q) (same_place_comm q met.place ∙ t)))
+          (noted q)
+    ]
+
+-- no place has rows where nothing is met
+pub noted_none : AreNoted [] [] []
+noted_none q = first_none
+
+-- ---- nodes
+
+pub node_mets-push : (g h : PlainGraph) (xs : List NodePair) (x : NodePair) (n k : ℕ) → k ≡ n + length xs
+    → node_mets g h (xs ++ x ∷ []) n ≡ node_mets g h xs n ++ met_if (record { place = record { router = x.place; peer = None }; row = row_at g h x; node = k })
+node_mets-push g h [] x n k is =
+    append-nil (met_if (record { place = record { router = x.place; peer = None }; row = row_at g h x; node = n }))
+    ∙ ap (λ (m : ℕ). met_if (record { place = record { router = x.place; peer = None }; row = row_at g h x; node = m })) (omega (arith, is))
+node_mets-push g h (y ∷ xs) x n k is =
+    let met = met_if (record { place = record { router = y.place; peer = None }; row = row_at g h y; node = n }) in
+    ap (λ ms. met ++ ms) (node_mets-push g h xs x (n + 1) k (omega (arith, is)))
+    ∙ sym (append_assoc met (node_mets g h xs (n + 1)) (met_if (record { place = record { router = x.place; peer = None }; row = row_at g h x; node = k })))

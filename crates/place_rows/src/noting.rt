@@ -1,0 +1,69 @@
+//! Rows that are met, noted one by one at their places.
+ghost use Rattle.std.specs.Prelude.{◌≡◌, ◌<◌, ◌++◌, ◌∷◌, [], IfOk, List as Items, OnOk, length};
+ghost use Rattle.std.specs.List.{position_or_len};
+ghost use Rattle.compare_base.specs.declared.rows.Place.{Place as PlainPlace};
+ghost use Rattle.pair_rows.specs.declared.values.Met.{Met};
+ghost use Rattle.pair_rows.specs.Meetings.{AreFirst, met_if, same_place};
+ghost use Rattle.place_rows.specs.Noted.{AreNoted, rows_for};
+
+use crate::row::{is_earlier, is_row};
+use compare_base::{Place, Row};
+use indexmap::IndexSet;
+use input_output::NoMemory;
+use pair_rows::FirstRow;
+use std::alloc::Global;
+
+// Notes a row of a place that is met with a node.
+fn note(rows: &mut Vec<FirstRow>, row: Row, node: u32) -> Result<(), NoMemory>
+    ensures { (mets : Items Met) (place : PlainPlace) → AreFirst mets rows.old.items
+        → OnOk result (AreFirst (mets ++ record { place = place; row = row; node = node } ∷ []) rows.new.items) }
+{
+    let index = rows.partition_point(|known| is_earlier(known.row, row));
+    if index < rows.len() && rows[index].row == row {
+        rows[index].node = rows[index].node.min(node);
+    } else {
+        rows.insert(index, FirstRow { row, node })?;
+    }
+    Ok(())
+}
+
+// The number of a place. A new one comes behind the others and has no rows yet.
+fn number_of(
+    alloc: Global,
+    places: &mut IndexSet<Place>,
+    rows: &mut Vec<Vec<FirstRow>>,
+    place: Place,
+) -> Result<usize, NoMemory>
+    requires size { length places.old.keys ≡ length rows.old.items }
+    ensures size { OnOk result (length places.new.keys ≡ length rows.new.items) }
+    ensures number { IfOk result (λ number. number ≡ position_or_len (same_place place) places.new.keys) }
+    ensures within { IfOk result (λ number. number < length rows.new.items) }
+    ensures kept { OnOk result ((q : PlainPlace) → rows_for places.new.keys rows.new.items q ≡ rows_for places.old.keys rows.old.items q) }
+{
+    let (number, is_new) = places.insert_full(place)?;
+    if is_new {
+        rows.push(Vec::new(alloc))?;
+    }
+    Ok(number)
+}
+
+/// Notes a row that is met at a place with a node, if some policy permits its walks.
+pub(crate) fn note_at(
+    alloc: Global,
+    places: &mut IndexSet<Place>,
+    rows: &mut Vec<Vec<FirstRow>>,
+    place: Place,
+    row: Row,
+    node: u32,
+) -> Result<(), NoMemory>
+    requires size { length places.old.keys ≡ length rows.old.items }
+    ensures size { OnOk result (length places.new.keys ≡ length rows.new.items) }
+    ensures noted { (mets : Items Met) → AreNoted mets places.old.keys rows.old.items
+        → OnOk result (AreNoted (mets ++ met_if (record { place = place; row = row; node = node })) places.new.keys rows.new.items) }
+{
+    if is_row(row) {
+        let number = number_of(alloc, places, rows, place)?;
+        note(&mut rows[number], row, node)?;
+    }
+    Ok(())
+}
