@@ -1,41 +1,24 @@
 //! The routers that carry in one policy alone.
 ghost use Rattle.std.specs.Prelude.{◌≡◌, ℕ, IfOk};
 ghost use Rattle.net_base.specs.Sets.{holds};
-ghost use Rattle.pair_changes.specs.Carriers.{all_in_one_alone, has_node_at, node_in as node_of_pair};
+ghost use Rattle.graph_base.specs.Graphs.{IsGraph};
+ghost use Rattle.pair_changes.specs.Carriers.{all_in_one_alone, has_node_at};
 
 use crate::places::is_router_place;
 use compare_base::CasePair;
+use graph_base::Graph;
 use net_base::{List, Loc, LocSet, Net};
-use pair_graph::NodePair;
 use std::alloc::{AllocError, Global};
 
-/// One of two policies.
-#[derive(Clone, Copy)]
-pub(crate) enum Side {
-    /// The old policy.
-    Old,
-    /// The new policy.
-    New,
-}
-
-// The node of a pair in the graph of one policy.
-fn node_in(side: Side, pair: &NodePair) -> Option<u32>
-    ensures { result ≡ node_of_pair side pair.now }
-{
-    match side {
-        Side::Old => pair.first,
-        Side::New => pair.second,
-    }
-}
-
-/// The routers at which the graph of one policy has nodes.
-pub(crate) fn routers_in(net: &Net, side: Side, pairs: &[NodePair]) -> LocSet
-    ensures { (r : ℕ) → holds result r ≡ has_node_at net.now side pairs.now r }
+/// The routers at which a graph has nodes.
+pub(crate) fn routers_of(net: &Net, graph: &Graph) -> LocSet
+    ensures routers { (r : ℕ) → holds result r ≡ has_node_at net.now graph.now.nodes r }
+    ensures rules { IsGraph graph.now }
 {
     let mut routers = LocSet::new();
-    for pair in pairs {
-        if net.is_router(pair.place) && node_in(side, pair).is_some() {
-            routers.insert(pair.place);
+    for node in graph.nodes() {
+        if net.is_router(node.loc) {
+            routers.insert(node.loc);
         }
     }
     routers

@@ -7,7 +7,7 @@ ghost use Rattle.compare_base.specs.Cases.{pair_for};
 ghost use Rattle.pair_changes.specs.Changes.{IsPairChange};
 ghost use Rattle.pair_changes.specs.Shown.{ShowsWalks};
 
-use crate::carriers::{Side, carriers_alone, routers_in};
+use crate::carriers::{carriers_alone, routers_of};
 use crate::kinds::kinds_of;
 use crate::places::places_of;
 use crate::walks::shown_kinds;
@@ -46,8 +46,8 @@ pub fn pair_change(
     let table = PlaceRows::new(alloc, old, new, &both)?;
     let places = places_of(alloc, net, cases)?;
     let kinds = kinds_of(alloc, &table, &places)?;
-    let before = routers_in(net, Side::Old, both.pairs.as_slice());
-    let after = routers_in(net, Side::New, both.pairs.as_slice());
+    let before = routers_of(net, old);
+    let after = routers_of(net, new);
     let change = PairChange {
         kinds: shown_kinds(alloc, &both, &table, &kinds)?,
         lost: carriers_alone(alloc, net, cases, &before, &after)?,

@@ -6,7 +6,7 @@
 //! with the same of both are one kind (`kinds`). A kind shows the walks of the one of its places that shows most rows without a loop
 //! (`example`), since two walks of different sources tell no order.
 //!
-//! Which routers carry is read off the nodes: each node of a trimmed graph is on some permitted walk (`carriers`).
+//! Which routers carry is read off the nodes of either graph: each node of a trimmed graph is on some permitted walk (`carriers`).
 //!
 //! What is said of the result speaks of walks alone (`specs/Changes`). The order of places is that of routers, then of sessions.
 //!

@@ -1,3 +1,4 @@
 mod Order
 mod Tables
 mod Mets
+mod Noting

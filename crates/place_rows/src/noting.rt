@@ -1,9 +1,10 @@
 //! Rows that are met, noted one by one at their places.
-ghost use Rattle.std.specs.Prelude.{◌≡◌, ◌<◌, ◌++◌, ◌∷◌, [], IfOk, List as Items, OnOk, length};
+ghost use Rattle.std.specs.Prelude.{◌≡◌, ◌<◌, ◌++◌, ◌∷◌, [], IfOk, List as Items, OnOk, length, not};
 ghost use Rattle.std.specs.List.{position_or_len};
 ghost use Rattle.compare_base.specs.declared.rows.Place.{Place as PlainPlace};
+ghost use Rattle.pair_rows.specs.declared.values.FirstRow.{FirstRow as PlainFirst};
 ghost use Rattle.pair_rows.specs.declared.values.Met.{Met};
-ghost use Rattle.pair_rows.specs.Meetings.{AreFirst, met_if, same_place};
+ghost use Rattle.pair_rows.specs.Meetings.{AreFirst, earlier, met_if, same_place};
 ghost use Rattle.place_rows.specs.Noted.{AreNoted, rows_for};
 
 use crate::row::{is_earlier, is_row};
@@ -13,12 +14,21 @@ use input_output::NoMemory;
 use pair_rows::FirstRow;
 use std::alloc::Global;
 
+// Where a row has its place among others: behind those that are earlier.
+fn place_of(rows: &[FirstRow], row: Row) -> usize
+    ensures { result ≡ position_or_len (λ (x : PlainFirst). not (earlier x.row row)) rows.now }
+{
+    rows.iter()
+        .position(|known| !is_earlier(known.row, row))
+        .unwrap_or(rows.len())
+}
+
 // Notes a row of a place that is met with a node.
 fn note(rows: &mut Vec<FirstRow>, row: Row, node: u32) -> Result<(), NoMemory>
     ensures { (mets : Items Met) (place : PlainPlace) → AreFirst mets rows.old.items
         → OnOk result (AreFirst (mets ++ record { place = place; row = row; node = node } ∷ []) rows.new.items) }
 {
-    let index = rows.partition_point(|known| is_earlier(known.row, row));
+    let index = place_of(rows, row);
     if index < rows.len() && rows[index].row == row {
         rows[index].node = rows[index].node.min(node);
     } else {

@@ -1,0 +1,7 @@
+mod InOrder
+mod PlaceLists
+mod KindTests
+mod KindSteps
+mod Carrying
+mod Changed
+mod Shows

@@ -1,0 +1,113 @@
+-- The places that are listed are those of the pair, in order.
+use Rattle.std.proofs.Common.{◌≡◌, ℕ, ◌<◌, ◌≤◌, Bool, true, false, List, [], ◌∷◌, ◌++◌, length, map, filter, Option, Some, None, refl, sym, ap, ◌∙◌, subst, arith, inl, inr, ltb-true}
+use Rattle.std.specs.Prelude.{◌&&◌, ◌||◌, ◌==◌, IsTrue, not, if◌then◌else◌}
+use Rattle.std.specs.List.{AllByRecursion, list_any}
+use Rattle.std.proofs.lemmas.Bool.{and_from, and_parts, cases_Bool, eqb-true, false≢true, leb-true, or_cases, true≢false}
+use Rattle.list_law.specs.Members.{IsIn}
+use Rattle.list_law.proofs.Members.{AllByRecursion-IsIn, IsIn-append_cases, IsIn-append_left, IsIn-append_right, IsIn-filter, IsIn-filter_parts, IsIn-map, IsIn-map_parts, IsIn-nil, list_any-from_IsIn, list_any_member}
+use Rattle.net_base.specs.Locations.{numbers_below}
+use Rattle.net_base.specs.Network.{Ascend, IsBefore, IsLink, IsNet, PlainNet, is_location, is_peer, is_router, joins, linked}
+use Rattle.net_base.proofs.NumbersBelow.{In-numbers_below}
+use Rattle.impact_law.specs.Impacts.{Precedes}
+use Rattle.compare_base.specs.declared.cases.CasePair.{CasePair}
+use Rattle.compare_base.specs.declared.rows.Place.{Place}
+use Rattle.compare_base.specs.Cases.{is_originated, is_place}
+use Rattle.pair_changes.specs.Changes.{AreInOrder, ComesFirst}
+use Rattle.pair_changes.specs.Places.{ArePlaces, places_in, router_place, router_places, session_place, session_places}
+use Rattle.pair_changes.proofs.InOrder.{InOrder, order_append, order_cons, order_filter, order_map, order_none, order_numbers}
+
+order_ascent : (links : List (ℕ × ℕ)) → Ascend links → InOrder IsBefore links
+order_ascent [] up = order_none IsBefore
+order_ascent (e ∷ links) up = order_cons IsBefore e links (λ z at. AllByRecursion-IsIn (IsBefore e) links z up.0 at) (order_ascent links up.1)
+
+module _ (net : PlainNet) (rules : IsNet net) (cases : CasePair) where
+  abbrev is_session : ℕ × ℕ → Bool
+  is_session link = is_router net link.0 && is_peer net link.1
+
+  abbrev is_source : ℕ → Bool
+  is_source r = is_place net cases r None
+
+  abbrev routers : List Place
+  routers = router_places net cases (length net.routers)
+
+  abbrev sessions : List Place
+  sessions = if is_originated cases then session_places net net.links else []
+
+  abbrev IsPlaceHere : Place → Type 0
+  IsPlaceHere q = is_place net cases q.router q.peer ≡ true
+
+  joins_itself : (link : ℕ × ℕ) → joins link.0 link.1 link ≡ true
+  joins_itself link = grind arith
+
+  session_is : (place : Place) → IsIn (session_places net net.links) place → is_originated cases ≡ true → IsPlaceHere place
+  session_is place at on =
+      let e = IsIn-map_parts session_place (filter is_session net.links) place at in
+      let parts = IsIn-filter_parts is_session net.links e.0 e.1 in
+      let ends = and_parts (is_router net e.0.0) (is_peer net e.0.1) parts.1 in
+      let joined : linked net e.0.0 e.0.1 ≡ true = list_any-from_IsIn (joins e.0.0 e.0.1) net.links e.0 parts.0 (joins_itself e.0) in
+      subst (λ (q : Place). IsPlaceHere q) e.2 (and_from _ _ on (and_from _ _ ends.0 (and_from _ _ ends.1 joined)))
+
+  router_is : (place : Place) → IsIn routers place → IsPlaceHere place
+  router_is place at =
+      let r = IsIn-map_parts router_place (filter is_source (numbers_below (length net.routers))) place at in
+      let parts = IsIn-filter_parts is_source (numbers_below (length net.routers)) r.0 r.1 in
+      subst (λ (q : Place). IsPlaceHere q) r.2 parts.1
+
+  each : (place : Place) → IsIn (places_in net cases) place → IsPlaceHere place
+  each place at = elim (IsIn-append_cases routers sessions place at) [
+    | inl t ↦ router_is place t
+    | inr t ↦ elim (cases_Bool (is_originated cases)) [
+      | inl on ↦ session_is place (subst (λ (b : Bool). IsIn (if b then session_places net net.links else []) place) on t) on
+      | inr off ↦ absurd (IsIn-nil place (subst (λ (b : Bool). IsIn (if b then session_places net net.links else []) place) off t))
+    ]
+  ]
+
+  -- a link of a router and a peer has the router first
+  ends_are : (r peer : ℕ) (link : ℕ × ℕ) → IsLink net link → is_router net r ≡ true → is_peer net peer ≡ true → joins r peer link ≡ true → link ≡ (r, peer)
+  ends_are r peer link is at_router at_peer on = elim (or_cases (link.0 == r && link.1 == peer) (link.0 == peer && link.1 == r) on) [
+    | inl t ↦ let parts = and_parts (link.0 == r) (link.1 == peer) t in λ i. (eqb-true link.0 r parts.0 i, eqb-true link.1 peer parts.1 i)
+    | inr t ↦
+        let parts = and_parts (link.0 == peer) (link.1 == r) t in
+        let low : r < length net.routers = ltb-true r (length net.routers) at_router in
+        let high : length net.routers ≤ peer = leb-true (length net.routers) peer (and_parts _ (is_location net peer) at_peer).0 in
+        absurd (omega (arith, is.0, low, high, eqb-true link.0 peer parts.0, eqb-true link.1 r parts.1))
+  ]
+
+  all : (r : ℕ) (peer : Option ℕ) → is_place net cases r peer ≡ true → IsIn (places_in net cases) (record { router = r; peer = peer })
+  all r None is =
+      let low = ltb-true r (length net.routers) (and_parts (is_router net r) _ is).0 in
+      IsIn-append_left routers sessions (router_place r) (IsIn-map router_place (filter is_source (numbers_below (length net.routers))) r
+      (IsIn-filter is_source (numbers_below (length net.routers)) r (In-numbers_below r (length net.routers) low) is))
+  all r (Some peer) is =
+      let first = and_parts (is_originated cases) _ is in
+      let second = and_parts (is_router net r) _ first.1 in
+      let third = and_parts (is_peer net peer) (linked net r peer) second.1 in
+      let link = list_any_member (joins r peer) net.links third.1 in
+      let same : link.0 ≡ (r, peer) = ends_are r peer link.0 (AllByRecursion-IsIn (IsLink net) net.links link.0 rules.links link.1) second.0 third.0 link.2 in
+      let there : IsIn net.links (r, peer) = subst (IsIn net.links) same link.1 in
+      let session : IsIn (session_places net net.links) (session_place (r, peer)) =
+      IsIn-map session_place (filter is_session net.links) (r, peer) (IsIn-filter is_session net.links (r, peer) there (and_from _ _ second.0 third.0)) in
+      IsIn-append_right routers sessions (session_place (r, peer)) (subst (λ (b : Bool). IsIn (if b then session_places net net.links else []) (session_place (r, peer))) (sym first.0) session)
+
+  session_order : (on : Bool) → InOrder ComesFirst (if on then session_places net net.links else [])
+  session_order true = order_map ComesFirst session_place (filter is_session net.links) (order_filter IsBefore is_session net.links (order_ascent net.links rules.order))
+  session_order false = order_none ComesFirst
+
+  in_order : InOrder ComesFirst (places_in net cases)
+  in_order =
+      order_append ComesFirst routers sessions
+      (order_map ComesFirst router_place (filter is_source (numbers_below (length net.routers))) (order_filter (λ (i j : ℕ). i < j) is_source (numbers_below (length net.routers)) (order_numbers (length net.routers))))
+      (session_order (is_originated cases)) cross
+    where
+      cross_of : (on : Bool) (x y : Place) → IsIn routers x → IsIn (if on then session_places net net.links else []) y → ComesFirst x y
+      cross_of false x y h k = absurd (IsIn-nil y k)
+      cross_of true x y h k =
+          let r = IsIn-map_parts router_place (filter is_source (numbers_below (length net.routers))) x h in
+          let e = IsIn-map_parts session_place (filter is_session net.links) y k in
+          subst (λ (z : Place). ComesFirst z y) r.2 (subst (λ (z : Place). ComesFirst (router_place r.0) z) e.2 tt)
+
+      cross : (x y : Place) → IsIn routers x → IsIn sessions y → ComesFirst x y
+      cross = cross_of (is_originated cases)
+
+  pub are_places : ArePlaces net cases (places_in net cases)
+  are_places = record { those = λ place. (each place, all place.router place.peer); order = in_order }
