@@ -1,8 +1,6 @@
 -- What is found of a pair of cases is what changes for its prefixes.
 use Rattle.std.proofs.Common.{◌≡◌, ◌⊎◌, ℕ, zero, suc, ◌<◌, Bool, true, false, List, [], ◌∷◌, ◌++◌, filter, length, map, refl, sym, ap, ◌∙◌, subst, arith, inl, inr, Option, Some, None}
 use Rattle.std.specs.Prelude.{◌↔◌, IsTrue, option_map, slice_get}
-use Rattle.std.specs.Option.{option_map_or}
-use Rattle.std.proofs.lemmas.Bool.{cases_Bool, false≢true}
 use Rattle.std.proofs.lemmas.Option.{same_Some, slice_get_within}
 use Rattle.list_law.specs.Members.{IsIn}
 use Rattle.list_law.proofs.Items.{slice_get_inside}
@@ -32,7 +30,7 @@ use Rattle.pair_changes.specs.Kinds.{AreKinds, differs_so, is_of, way_by}
 use Rattle.pair_changes.specs.Places.{ArePlaces}
 use Rattle.pair_changes.specs.Walks.{AreAllShown, AreWalks, IsShown}
 use Rattle.pair_changes.proofs.InOrder.{order_filter}
-use Rattle.pair_changes.proofs.KindTests.{of_from, of_parts}
+use Rattle.pair_changes.proofs.KindTests.{of_from, of_parts, so_parts}
 
 -- ---- rows of a place are one list
 
@@ -90,10 +88,6 @@ module _ (net : PlainNet) (old new : PlainPolicy) (p : PlainPrefix) where
 
     module _ (places : List Place) (all : ArePlaces net (pair_for old new p) places) (bare kinds : List Kind) (grouped : AreKinds way places bare) (shown : AreAllShown both firsts bare kinds) where
       -- ---- a kind
-
-      so_parts : (a : Kind) (o : Option Way) → differs_so a o ≡ true → (w : Way) × (o ≡ Some w) × (is_of w a ≡ true)
-      so_parts a None on = absurd (false≢true on)
-      so_parts a (Some w) on = (w, refl, on)
 
       module _ (a b : Kind) (at : IsIn bare a) (is : IsShown both firsts a b) where
         differs_there : (place : Place) → IsIn b.places place → Differs net old new p b.words b.rows place

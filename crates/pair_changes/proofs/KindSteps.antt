@@ -1,16 +1,18 @@
 -- Kinds of places, as one place after the other joins.
-use Rattle.std.proofs.Common.{◌≡◌, ◌⊎◌, ℕ, zero, suc, ◌+◌, ◌<◌, ◌≤◌, Bool, true, false, List, [], ◌∷◌, ◌++◌, filter, length, set, refl, sym, ap, ◌∙◌, subst, arith, inl, inr, Option, Some, None, length-append}
+use Rattle.std.proofs.Common.{◌≡◌, ◌⊎◌, ℕ, zero, suc, ◌+◌, ◌<◌, ◌≤◌, Bool, true, false, List, [], ◌∷◌, ◌++◌, filter, get_or, length, set, refl, sym, ap, ◌∙◌, subst, arith, inl, inr, Option, Some, None, length-append}
 use Rattle.std.specs.Prelude.{slice_get, if◌then◌else◌}
-use Rattle.std.specs.List.{list_any}
+use Rattle.std.specs.List.{list_any, position}
 use Rattle.std.proofs.lemmas.Bool.{cases_Bool, cases_eq, cases_lt, cases_order, true≢false}
 use Rattle.std.proofs.lemmas.List.{append-nil}
 use Rattle.std.proofs.lemmas.List.Elements.{filter-append}
-use Rattle.std.proofs.lemmas.Option.{same_Some, slice_get_within}
+use Rattle.std.proofs.lemmas.Option.{get_or_from_slice_get, same_Some, slice_get_within}
 use Rattle.list_law.specs.Members.{IsIn}
 use Rattle.list_law.proofs.Changed.{filter_same}
 use Rattle.list_law.proofs.Items.{from_behind, from_front, slice_get_in_front}
 use Rattle.list_law.proofs.Members.{IsIn-append_left, IsIn-filter_parts, IsIn-nil, IsIn-push, IsIn-push_cases, list_any-from_IsIn}
 use Rattle.list_law.proofs.Options.{none_or_some}
+use Rattle.list_law.proofs.Positions.{find-position, list_any-at_position, list_any-no_position}
+use Rattle.list_law.proofs.Tests.{find-any, find_parts}
 use Rattle.impact_law.proofs.OneImpact.{not_itself}
 use Rattle.compare_base.specs.declared.rows.Kind.{Kind}
 use Rattle.compare_base.specs.declared.rows.Place.{Place}
@@ -253,3 +255,28 @@ module _ (way : Place → Option Way) (done : List Place) (kinds : List Kind) (a
 
       pub kinds_begun : AreKinds way (done ++ place ∷ []) (kinds ++ begun ∷ [])
       kinds_begun = record { each = each_begun; some = some_begun; all = all_begun; order = before_begun }
+
+-- the first item that passes a test
+pub position_parts : {A : Type 0} (p : A → Bool) (xs : List A) (i : ℕ) → position p xs ≡ Some i → (x : A) × (slice_get xs i ≡ Some x) × (p x ≡ true)
+position_parts p xs i is =
+    let found = find-any p xs (list_any-at_position p xs i is) in
+    let parts = find_parts p xs found.0 found.1 in
+    (found.0, sym (find-position p xs i is) ∙ found.1, parts.2)
+
+-- a kind that joins is set, and one that begins is put behind the others
+pub added_kind : (way : Place → Option Way) (done : List Place) (kinds : List Kind) (place : Place) (w : Way) (i : ℕ) (v : Kind) (after : List Kind) → AreKinds way done kinds
+    → way place ≡ Some w → position (is_of w) kinds ≡ Some i → v ≡ get_or kinds i v
+    → after ≡ set kinds i (record { words = v.words; rows = v.rows; places = v.places ++ place ∷ []; walks = v.walks }) → AreKinds way (done ++ place ∷ []) after
+added_kind way done kinds place w i v after are is found read written =
+    let k = position_parts (is_of w) kinds i found in
+    let same : v ≡ k.0 = read ∙ get_or_from_slice_get kinds i k.0 v k.1 in
+    subst (λ (ks : List Kind). AreKinds way (done ++ place ∷ []) ks)
+    (sym (written ∙ ap (λ (u : Kind). set kinds i (record { words = u.words; rows = u.rows; places = u.places ++ place ∷ []; walks = u.walks })) same))
+    (kinds_joined way done kinds are place w is i k.0 k.1 k.2)
+
+pub begun_kind : (way : Place → Option Way) (done : List Place) (kinds : List Kind) (place : Place) (w : Way) (k : Kind) (after : List Kind) → AreKinds way done kinds
+    → way place ≡ Some w → position (is_of w) kinds ≡ None → ((q : Place) → IsIn done q → ComesFirst q place)
+    → k ≡ record { words = w.words; rows = w.rows; places = place ∷ []; walks = [] } → after ≡ kinds ++ k ∷ [] → AreKinds way (done ++ place ∷ []) after
+begun_kind way done kinds place w k after are is none last made written =
+    subst (λ (ks : List Kind). AreKinds way (done ++ place ∷ []) ks) (sym (written ∙ ap (λ (u : Kind). kinds ++ u ∷ []) made))
+    (kinds_begun way done kinds are place w is (list_any-no_position (is_of w) kinds none) last)

@@ -1,17 +1,17 @@
 -- When a kind is of places that differ so: it has the same words and rows.
 use Rattle.std.proofs.Common.{◌≡◌, Bool, true, false, List, [], ◌∷◌, refl, sym, ap, ap₂, ◌∙◌, Option, Some, None}
-use Rattle.std.specs.Prelude.{◌&&◌, nat_eq}
-use Rattle.std.specs.Option.{option_eq, option_map_or}
+use Rattle.std.specs.Prelude.{◌&&◌}
 use Rattle.std.proofs.Math.Bool.{beq}
 use Rattle.std.proofs.lemmas.Bool.{and_from, and_parts, false≢true}
 use lib.Pointwise.{pointwise}
-use Rattle.list_law.proofs.Options.{is-option_eq, option_eq-is}
 use Rattle.compare_base.specs.declared.rows.Kind.{Kind}
 use Rattle.compare_base.specs.declared.rows.Row.{Row}
 use Rattle.compare_base.specs.declared.rows.Words.{Words}
 use Rattle.compare_base.specs.declared.rows.Words.TheVariants.{Partly, Unclaimed, Claimed, Replaced}
+use Rattle.place_rows.specs.Noted.{same_row}
+use Rattle.place_rows.proofs.Order.{row_is, row_same}
 use Rattle.pair_changes.specs.declared.ways.Way.{Way}
-use Rattle.pair_changes.specs.Kinds.{differs_so, is_of, same_row, same_words}
+use Rattle.pair_changes.specs.Kinds.{differs_so, is_of, same_words}
 
 beq_is : (a b : Bool) → beq a b ≡ true → a ≡ b
 beq_is true true is = refl
@@ -50,14 +50,6 @@ words_same Unclaimed = refl
 words_same Claimed = refl
 words_same Replaced = refl
 
-row_is : (a b : Row) → same_row a b ≡ true → a ≡ b
-row_is a b is =
-    let parts = and_parts (option_eq nat_eq a.old b.old) (option_eq nat_eq a.new b.new) is in
-    λ i. record { old = option_eq-is a.old b.old parts.0 i; new = option_eq-is a.new b.new parts.1 i }
-
-row_same : (a : Row) → same_row a a ≡ true
-row_same a = and_from _ _ (is-option_eq a.old a.old refl) (is-option_eq a.new a.new refl)
-
 rows_are : (xs ys : List Row) → pointwise same_row xs ys ≡ true → xs ≡ ys
 rows_are [] [] is = refl
 rows_are [] (y ∷ ys) is = absurd (false≢true is)
@@ -70,7 +62,7 @@ rows_are (x ∷ xs) (y ∷ ys) is =
 
 rows_same : (xs : List Row) → pointwise same_row xs xs ≡ true
 rows_same [] = refl
-rows_same (x ∷ xs) = and_from _ _ (row_same x) (rows_same xs)
+rows_same (x ∷ xs) = and_from _ _ (row_same x x refl refl) (rows_same xs)
 
 pub of_parts : (w : Way) (kind : Kind) → is_of w kind ≡ true → (kind.words ≡ w.words) × (kind.rows ≡ w.rows)
 of_parts w kind is =
@@ -85,3 +77,8 @@ of_from w kind words rows =
 pub differs_alike : (a b : Kind) → a.words ≡ b.words → a.rows ≡ b.rows → (o : Option Way) → differs_so a o ≡ differs_so b o
 differs_alike a b words rows None = refl
 differs_alike a b words rows (Some w) = ap₂ (λ (x : Words) (xs : List Row). same_words x w.words && pointwise same_row xs w.rows) words rows
+
+-- a place that differs so differs in some way, of which the kind is
+pub so_parts : (a : Kind) (o : Option Way) → differs_so a o ≡ true → (w : Way) × (o ≡ Some w) × (is_of w a ≡ true)
+so_parts a None on = absurd (false≢true on)
+so_parts a (Some w) on = (w, refl, on)

@@ -5,3 +5,6 @@ mod KindSteps
 mod Carrying
 mod Changed
 mod Shows
+mod WalkLists
+mod Needed
+mod Whole

@@ -1,8 +1,11 @@
 -- The places that are listed are those of the pair, in order.
-use Rattle.std.proofs.Common.{◌≡◌, ℕ, ◌<◌, ◌≤◌, Bool, true, false, List, [], ◌∷◌, ◌++◌, length, map, filter, Option, Some, None, refl, sym, ap, ◌∙◌, subst, arith, inl, inr, ltb-true}
+use Rattle.std.proofs.Common.{◌≡◌, append_assoc, ℕ, suc, ◌+◌, ◌<◌, ◌≤◌, get_or, take, Bool, true, false, List, [], ◌∷◌, ◌++◌, length, map, filter, Option, Some, None, refl, sym, ap, ◌∙◌, subst, arith, inl, inr, ltb-true}
 use Rattle.std.specs.Prelude.{◌&&◌, ◌||◌, ◌==◌, IsTrue, not, if◌then◌else◌}
-use Rattle.std.specs.List.{AllByRecursion, list_any}
-use Rattle.std.proofs.lemmas.Bool.{and_from, and_parts, cases_Bool, eqb-true, false≢true, leb-true, or_cases, true≢false}
+use Rattle.std.specs.List.{list_any}
+use Rattle.std.proofs.lemmas.Bool.{and_from, and_parts, cases_Bool, eq-eqb, eqb-true, false≢true, leb-true, or_cases, true≢false}
+use Rattle.std.proofs.lemmas.List.{map-append}
+use Rattle.std.proofs.lemmas.List.Elements.{filter-append}
+use Rattle.group_law.proofs.Taken.{take_next}
 use Rattle.list_law.specs.Members.{IsIn}
 use Rattle.list_law.proofs.Members.{AllByRecursion-IsIn, IsIn-append_cases, IsIn-append_left, IsIn-append_right, IsIn-filter, IsIn-filter_parts, IsIn-map, IsIn-map_parts, IsIn-nil, list_any-from_IsIn, list_any_member}
 use Rattle.net_base.specs.Locations.{numbers_below}
@@ -13,7 +16,7 @@ use Rattle.compare_base.specs.declared.cases.CasePair.{CasePair}
 use Rattle.compare_base.specs.declared.rows.Place.{Place}
 use Rattle.compare_base.specs.Cases.{is_originated, is_place}
 use Rattle.pair_changes.specs.Changes.{AreInOrder, ComesFirst}
-use Rattle.pair_changes.specs.Places.{ArePlaces, places_in, router_place, router_places, session_place, session_places}
+use Rattle.pair_changes.specs.Places.{ArePlaces, is_session, places_in, router_place, router_places, session_place, session_places}
 use Rattle.pair_changes.proofs.InOrder.{InOrder, order_append, order_cons, order_filter, order_map, order_none, order_numbers}
 
 order_ascent : (links : List (ℕ × ℕ)) → Ascend links → InOrder IsBefore links
@@ -21,9 +24,6 @@ order_ascent [] up = order_none IsBefore
 order_ascent (e ∷ links) up = order_cons IsBefore e links (λ z at. AllByRecursion-IsIn (IsBefore e) links z up.0 at) (order_ascent links up.1)
 
 module _ (net : PlainNet) (rules : IsNet net) (cases : CasePair) where
-  abbrev is_session : ℕ × ℕ → Bool
-  is_session link = is_router net link.0 && is_peer net link.1
-
   abbrev is_source : ℕ → Bool
   is_source r = is_place net cases r None
 
@@ -37,12 +37,13 @@ module _ (net : PlainNet) (rules : IsNet net) (cases : CasePair) where
   IsPlaceHere q = is_place net cases q.router q.peer ≡ true
 
   joins_itself : (link : ℕ × ℕ) → joins link.0 link.1 link ≡ true
-  joins_itself link = grind arith
+  joins_itself link =
+      ap (λ (b : Bool). b || (link.0 == link.1 && link.1 == link.0)) (and_from (link.0 == link.0) (link.1 == link.1) (eq-eqb link.0 link.0 refl) (eq-eqb link.1 link.1 refl))
 
   session_is : (place : Place) → IsIn (session_places net net.links) place → is_originated cases ≡ true → IsPlaceHere place
   session_is place at on =
-      let e = IsIn-map_parts session_place (filter is_session net.links) place at in
-      let parts = IsIn-filter_parts is_session net.links e.0 e.1 in
+      let e = IsIn-map_parts session_place (filter (is_session net) net.links) place at in
+      let parts = IsIn-filter_parts (is_session net) net.links e.0 e.1 in
       let ends = and_parts (is_router net e.0.0) (is_peer net e.0.1) parts.1 in
       let joined : linked net e.0.0 e.0.1 ≡ true = list_any-from_IsIn (joins e.0.0 e.0.1) net.links e.0 parts.0 (joins_itself e.0) in
       subst (λ (q : Place). IsPlaceHere q) e.2 (and_from _ _ on (and_from _ _ ends.0 (and_from _ _ ends.1 joined)))
@@ -86,11 +87,11 @@ module _ (net : PlainNet) (rules : IsNet net) (cases : CasePair) where
       let same : link.0 ≡ (r, peer) = ends_are r peer link.0 (AllByRecursion-IsIn (IsLink net) net.links link.0 rules.links link.1) second.0 third.0 link.2 in
       let there : IsIn net.links (r, peer) = subst (IsIn net.links) same link.1 in
       let session : IsIn (session_places net net.links) (session_place (r, peer)) =
-      IsIn-map session_place (filter is_session net.links) (r, peer) (IsIn-filter is_session net.links (r, peer) there (and_from _ _ second.0 third.0)) in
+      IsIn-map session_place (filter (is_session net) net.links) (r, peer) (IsIn-filter (is_session net) net.links (r, peer) there (and_from _ _ second.0 third.0)) in
       IsIn-append_right routers sessions (session_place (r, peer)) (subst (λ (b : Bool). IsIn (if b then session_places net net.links else []) (session_place (r, peer))) (sym first.0) session)
 
   session_order : (on : Bool) → InOrder ComesFirst (if on then session_places net net.links else [])
-  session_order true = order_map ComesFirst session_place (filter is_session net.links) (order_filter IsBefore is_session net.links (order_ascent net.links rules.order))
+  session_order true = order_map ComesFirst session_place (filter (is_session net) net.links) (order_filter IsBefore (is_session net) net.links (order_ascent net.links rules.order))
   session_order false = order_none ComesFirst
 
   in_order : InOrder ComesFirst (places_in net cases)
@@ -103,7 +104,7 @@ module _ (net : PlainNet) (rules : IsNet net) (cases : CasePair) where
       cross_of false x y h k = absurd (IsIn-nil y k)
       cross_of true x y h k =
           let r = IsIn-map_parts router_place (filter is_source (numbers_below (length net.routers))) x h in
-          let e = IsIn-map_parts session_place (filter is_session net.links) y k in
+          let e = IsIn-map_parts session_place (filter (is_session net) net.links) y k in
           subst (λ (z : Place). ComesFirst z y) r.2 (subst (λ (z : Place). ComesFirst (router_place r.0) z) e.2 tt)
 
       cross : (x y : Place) → IsIn routers x → IsIn sessions y → ComesFirst x y
@@ -111,3 +112,41 @@ module _ (net : PlainNet) (rules : IsNet net) (cases : CasePair) where
 
   pub are_places : ArePlaces net cases (places_in net cases)
   are_places = record { those = λ place. (each place, all place.router place.peer); order = in_order }
+
+-- ---- one more
+
+pub routers_next : (net : PlainNet) (cases : CasePair) (n r : ℕ) (is_one : Bool) (place : Place) → r ≡ n → is_one ≡ is_place net cases r None → place ≡ router_place r
+    → router_places net cases (n + 1) ≡ router_places net cases n ++ (if is_one then place ∷ [] else [])
+routers_next net cases n r is_one place same one is_place_of =
+    ap (λ k. router_places net cases k) (next n)
+    ∙ ap (map router_place) (filter-append (λ k. is_place net cases k None) (numbers_below n) (n ∷ []))
+    ∙ map-append router_place (filter (λ k. is_place net cases k None) (numbers_below n)) (filter (λ k. is_place net cases k None) (n ∷ []))
+    ∙ ap (λ ps. router_places net cases n ++ ps) (last (is_place net cases n None) refl)
+  where
+    next : (k : ℕ) → k + 1 ≡ suc k
+    next k = omega arith
+
+    tested : (b : Bool) → is_place net cases n None ≡ b → is_one ≡ b
+    tested b is = one ∙ ap (λ k. is_place net cases k None) same ∙ is
+
+    last : (b : Bool) → is_place net cases n None ≡ b → map router_place (filter (λ k. is_place net cases k None) (n ∷ [])) ≡ (if is_one then place ∷ [] else [])
+    last true is = rw (is, tested true is) (ap (λ (q : Place). q ∷ []) (ap router_place (sym same) ∙ sym is_place_of))
+    last false is = rw (is, tested false is) refl
+
+pub sessions_next : (net : PlainNet) (links : List (ℕ × ℕ)) (n : ℕ) (link : ℕ × ℕ) (is_one : Bool) (place : Place) → n < length links → link ≡ get_or links n link
+    → is_one ≡ is_session net link → place ≡ session_place link
+    → session_places net (take (n + 1) links) ≡ session_places net (take n links) ++ (if is_one then place ∷ [] else [])
+sessions_next net links n link is_one place within read one is_place_of =
+    ap (session_places net) (take_next links n link within read)
+    ∙ ap (map session_place) (filter-append (is_session net) (take n links) (link ∷ []))
+    ∙ map-append session_place (filter (is_session net) (take n links)) (filter (is_session net) (link ∷ []))
+    ∙ ap (λ ps. session_places net (take n links) ++ ps) (last (is_session net link) refl)
+  where
+    last : (b : Bool) → is_session net link ≡ b → map session_place (filter (is_session net) (link ∷ [])) ≡ (if is_one then place ∷ [] else [])
+    last true is = rw (is, one ∙ is) (ap (λ (q : Place). q ∷ []) (sym is_place_of))
+    last false is = rw (is, one ∙ is) refl
+
+-- what is behind others, with more
+pub behind_next : {A : Type 0} (old items after xs longer more : List A) → after ≡ items ++ more → items ≡ old ++ xs → longer ≡ xs ++ more → after ≡ old ++ longer
+behind_next old items after xs longer more is so_far grown =
+    is ∙ ap (λ ys. ys ++ more) so_far ∙ append_assoc old xs more ∙ ap (λ ys. old ++ ys) (sym grown)

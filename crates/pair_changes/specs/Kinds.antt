@@ -1,6 +1,6 @@
 -- Places that are grouped by how they differ.
-use Rattle.std.specs.Prelude.{◌≡◌, ◌↔◌, ℕ, ◌<◌, Bool, true, false, ◌&&◌, IsTrue, List, filter, nat_eq, option_map, slice_get, Option, Some}
-use Rattle.std.specs.Option.{option_eq, option_map_or}
+use Rattle.std.specs.Prelude.{◌≡◌, ℕ, ◌<◌, Bool, true, false, ◌&&◌, List, filter, option_map, slice_get, Option, Some}
+use Rattle.std.specs.Option.{option_map_or}
 use Rattle.std.proofs.Math.Bool.{beq}
 use lib.Pointwise.{pointwise}
 use Rattle.list_law.specs.Members.{IsIn}
@@ -9,6 +9,7 @@ use Rattle.compare_base.specs.declared.rows.Place.{Place}
 use Rattle.compare_base.specs.declared.rows.Row.{Row}
 use Rattle.compare_base.specs.declared.rows.Words.{Words}
 use Rattle.compare_base.specs.declared.rows.Words.TheVariants.{Partly, Unclaimed, Claimed, Replaced}
+use Rattle.place_rows.specs.Noted.{same_row}
 use Rattle.row_words.specs.WordsOfRows.{shown_rows, words_of}
 use Rattle.pair_changes.specs.declared.ways.Way.{Way}
 use Rattle.pair_changes.specs.Changes.{ComesBefore}
@@ -23,9 +24,6 @@ same_words Unclaimed Unclaimed = true
 same_words Claimed Claimed = true
 same_words Replaced Replaced = true
 same_words _ _ = false
-
-abbrev pub same_row : Row → Row → Bool
-same_row a b = option_eq nat_eq a.old b.old && option_eq nat_eq a.new b.new
 
 -- the kind is of places that differ so
 abbrev pub is_of : Way → Kind → Bool

@@ -18,9 +18,12 @@ session_place session = record { router = session.0; peer = Some session.1 }
 abbrev pub router_places : PlainNet → CasePair → ℕ → List Place
 router_places net cases count = map router_place (filter (λ r. is_place net cases r None) (numbers_below count))
 
+abbrev pub is_session : PlainNet → ℕ × ℕ → Bool
+is_session net link = is_router net link.0 && is_peer net link.1
+
 -- the sessions among links, each of a router to a peer
 abbrev pub session_places : PlainNet → List (ℕ × ℕ) → List Place
-session_places net links = map session_place (filter (λ (link : ℕ × ℕ). is_router net link.0 && is_peer net link.1) links)
+session_places net links = map session_place (filter (is_session net) links)
 
 -- routers by location, then sessions as the links stand
 abbrev pub places_in : PlainNet → CasePair → List Place

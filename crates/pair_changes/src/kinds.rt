@@ -4,10 +4,11 @@ ghost use lib.Pointwise.{pointwise};
 ghost use Rattle.list_law.specs.Members.{IsIn};
 ghost use Rattle.compare_base.specs.declared.rows.Place.{Place as PlainPlace};
 ghost use Rattle.pair_rows.specs.Meetings.{rows_alone};
+ghost use Rattle.place_rows.specs.Noted.{same_row};
 ghost use Rattle.place_rows.specs.Rows.{rows_of};
 ghost use Rattle.pair_changes.specs.declared.ways.Way.{Way as PlainWay};
 ghost use Rattle.pair_changes.specs.Changes.{AreInOrder, ComesFirst};
-ghost use Rattle.pair_changes.specs.Kinds.{AreKinds, is_of as is_kind_of, same_row, same_words as same_words_of, way_by};
+ghost use Rattle.pair_changes.specs.Kinds.{AreKinds, is_of as is_kind_of, same_words as same_words_of, way_by};
 
 use crate::ways::Way;
 use compare_base::{Kind, Place, Row, Words};
@@ -85,6 +86,22 @@ fn add_place(
     Ok(())
 }
 
+// Puts a place to its kind, if it differs.
+fn add_if(
+    alloc: Global,
+    kinds: &mut Vec<Kind>,
+    place: Place,
+    way: Option<Way>,
+) -> Result<(), NoMemory>
+    ensures { (way_at : PlainPlace → Option PlainWay) (done : Items PlainPlace) → AreKinds way_at done kinds.old.items → way_at place ≡ way
+        → ((q : PlainPlace) → IsIn done q → ComesFirst q place) → OnOk result (AreKinds way_at (done ++ place ∷ []) kinds.new.items) }
+{
+    match way {
+        Some(way) => add_place(alloc, kinds, place, way),
+        None => Ok(()),
+    }
+}
+
 /// The kinds of the places that differ, in order of their first places, with no walks yet.
 pub(crate) fn kinds_of(
     alloc: Global,
@@ -95,9 +112,8 @@ pub(crate) fn kinds_of(
 {
     let mut kinds = Vec::new(alloc);
     for place in places {
-        if let Some(way) = Way::of(alloc, table.rows(*place))? {
-            add_place(alloc, &mut kinds, *place, way)?;
-        }
+        let way = Way::of(alloc, table.rows(*place))?;
+        add_if(alloc, &mut kinds, *place, way)?;
     }
     Ok(kinds)
 }

@@ -1,8 +1,8 @@
 //! The places of a pair of cases, in order.
-ghost use Rattle.std.specs.Prelude.{◌≡◌, ◌++◌, IfOk, OnOk, None};
+ghost use Rattle.std.specs.Prelude.{◌≡◌, ◌++◌, ◌∷◌, [], IfOk, OnOk, None, if◌then◌else◌};
 ghost use Rattle.compare_base.specs.Cases.{is_originated as is_originated_by, is_place};
 ghost use Rattle.policy_base.specs.Governing.{is_origin_by};
-ghost use Rattle.pair_changes.specs.Places.{ArePlaces, router_places, session_places};
+ghost use Rattle.pair_changes.specs.Places.{ArePlaces, is_session as is_session_of, router_places, session_place as session_place_of, session_places};
 
 use compare_base::{CasePair, Place};
 use net_base::{Loc, LocSet, Net};
@@ -33,6 +33,16 @@ fn is_originated(cases: &CasePair) -> bool
     cases.old.origins.is_some() || cases.new.origins.is_some()
 }
 
+// Puts a place behind others, if it's one of the pair.
+fn push_if(places: &mut Vec<Place>, is_one: bool, place: Place) -> Result<(), AllocError>
+    ensures { OnOk result (places.new.items ≡ places.old.items ++ (if is_one then place ∷ [] else [])) }
+{
+    if is_one {
+        places.push(place)?;
+    }
+    Ok(())
+}
+
 // Adds the routers, of so many, that are origins in neither policy.
 fn push_routers(
     places: &mut Vec<Place>,
@@ -44,25 +54,42 @@ fn push_routers(
 {
     for number in 0..count {
         let router = Loc::new(number);
-        if is_router_place(net, cases, router) {
-            places.push(Place { router, peer: None })?;
-        }
+        let is_one = is_router_place(net, cases, router);
+        push_if(places, is_one, Place { router, peer: None })?;
     }
     Ok(())
 }
 
-// Adds the sessions of routers to peers.
-fn push_sessions(places: &mut Vec<Place>, net: &Net) -> Result<(), AllocError>
-    ensures { OnOk result (places.new.items ≡ places.old.items ++ session_places net.now net.now.links) }
+// Whether a link is a session of a router to a peer.
+fn is_session(net: &Net, link: (Loc, Loc)) -> bool
+    ensures { result ≡ is_session_of net.now link }
 {
+    net.is_router(link.0) && net.is_peer(link.1)
+}
+
+// The place of a session.
+fn session_place(link: (Loc, Loc)) -> Place
+    ensures { result ≡ session_place_of link }
+{
+    Place {
+        router: link.0,
+        peer: Some(link.1),
+    }
+}
+
+// Adds the sessions of routers to peers, if the prefixes are originated.
+fn push_sessions(
+    places: &mut Vec<Place>,
+    net: &Net,
+    cases: &CasePair,
+) -> Result<(), AllocError>
+    ensures { OnOk result (places.new.items ≡ places.old.items ++ (if is_originated_by cases.now then session_places net.now net.now.links else [])) }
+{
+    if !is_originated(cases) {
+        return Ok(());
+    }
     for link in net.links() {
-        let (router, peer) = *link;
-        if net.is_router(router) && net.is_peer(peer) {
-            places.push(Place {
-                router,
-                peer: Some(peer),
-            })?;
-        }
+        push_if(places, is_session(net, *link), session_place(*link))?;
     }
     Ok(())
 }
@@ -77,8 +104,6 @@ pub(crate) fn places_of(
 {
     let mut places = Vec::new(alloc);
     push_routers(&mut places, net, cases, net.routers().len() as u16)?;
-    if is_originated(cases) {
-        push_sessions(&mut places, net)?;
-    }
+    push_sessions(&mut places, net, cases)?;
     Ok(places)
 }

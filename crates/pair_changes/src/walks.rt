@@ -24,12 +24,10 @@ fn node_of(rows: &[FirstRow], row: Row) -> u32
     requires { (x : PlainFirst) × IsIn rows.now x × (x.row ≡ row) }
     ensures { (x : PlainFirst) × IsIn rows.now x × (x.row ≡ row) × (x.node ≡ result) }
 {
-    for first in rows {
-        if first.row == row {
-            return first.node;
-        }
-    }
-    unreachable!()
+    let Some(first) = rows.iter().find(|first| first.row == row) else {
+        unreachable!()
+    };
+    first.node
 }
 
 // The walk by which a node is shown, from the peer where the place is a session.
@@ -75,10 +73,13 @@ fn walks_of(
 fn paths(walks: &[List<Loc>]) -> usize
     ensures { result ≡ count_by loop_free walks.now }
 {
-    walks
-        .iter()
-        .filter(|walk| is_loop_free(walk.as_slice()))
-        .count()
+    let mut count = 0;
+    for walk in walks {
+        if is_loop_free(walk.as_slice()) {
+            count += 1;
+        }
+    }
+    count
 }
 
 // The first walks, unless the others have more without a loop.

@@ -1,4 +1,4 @@
-mod Order
+pub mod Order
 mod Tables
 mod Mets
-mod Noting
+mod FirstRows

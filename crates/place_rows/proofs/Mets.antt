@@ -1,17 +1,20 @@
 -- What is met, as one node or step follows another.
-use Rattle.std.proofs.Common.{◌≡◌, ℕ, ◌+◌, ◌<◌, Bool, true, false, List, [], ◌∷◌, ◌++◌, Vec, length, set, refl, sym, ap, ◌∙◌, subst, subst₂, append_assoc, arith, inl, inr, Some, None}
+use Rattle.std.proofs.Common.{◌≡◌, ℕ, ◌+◌, ◌<◌, Bool, true, false, List, [], ◌∷◌, ◌++◌, Vec, get_or, length, length-take, set, take, refl, sym, ap, ◌∙◌, subst, subst₂, append_assoc, arith, inl, inr, Option, Some, None}
 use Rattle.std.specs.Prelude.{slice_get, filter, if◌then◌else◌}
 use Rattle.std.specs.Global.{Global}
 use Rattle.std.specs.List.{flat_map, position_or_len}
 use Rattle.std.proofs.lemmas.Bool.{cases_Bool}
 use Rattle.std.proofs.lemmas.List.{append-nil}
+use Rattle.std.proofs.lemmas.Grind.{flat_map-append}
 use Rattle.std.proofs.lemmas.List.Elements.{filter-append}
+use Rattle.group_law.proofs.Taken.{take_next}
 use Rattle.graph_base.specs.Graphs.{PlainGraph}
 use Rattle.pair_graph.specs.declared.pair.NodePair.{NodePair}
 use Rattle.compare_base.specs.declared.rows.Place.{Place}
+use Rattle.compare_base.specs.declared.rows.Row.{Row}
 use Rattle.pair_rows.specs.declared.values.FirstRow.{FirstRow}
 use Rattle.pair_rows.specs.declared.values.Met.{Met}
-use Rattle.pair_rows.specs.Meetings.{AreFirst, is_at, met_if, mets_at, node_mets, row_at, same_place}
+use Rattle.pair_rows.specs.Meetings.{AreFirst, is_at, is_row, met_between, met_if, mets_at, node_mets, row_at, same_place, step_mets}
 use Rattle.pair_rows.proofs.NotedRows.{first_none}
 use Rattle.pair_rows.proofs.RowsMet.{place_is}
 use Rattle.place_rows.specs.Noted.{AreNoted, rows_for}
@@ -58,9 +61,40 @@ noted_none q = first_none
 pub node_mets-push : (g h : PlainGraph) (xs : List NodePair) (x : NodePair) (n k : ℕ) → k ≡ n + length xs
     → node_mets g h (xs ++ x ∷ []) n ≡ node_mets g h xs n ++ met_if (record { place = record { router = x.place; peer = None }; row = row_at g h x; node = k })
 node_mets-push g h [] x n k is =
+    let same : n ≡ k = omega (arith, is) in
     append-nil (met_if (record { place = record { router = x.place; peer = None }; row = row_at g h x; node = n }))
-    ∙ ap (λ (m : ℕ). met_if (record { place = record { router = x.place; peer = None }; row = row_at g h x; node = m })) (omega (arith, is))
+    ∙ ap (λ (m : ℕ). met_if (record { place = record { router = x.place; peer = None }; row = row_at g h x; node = m })) same
 node_mets-push g h (y ∷ xs) x n k is =
     let met = met_if (record { place = record { router = y.place; peer = None }; row = row_at g h y; node = n }) in
     ap (λ ms. met ++ ms) (node_mets-push g h xs x (n + 1) k (omega (arith, is)))
     ∙ sym (append_assoc met (node_mets g h xs (n + 1)) (met_if (record { place = record { router = x.place; peer = None }; row = row_at g h x; node = k })))
+
+-- the next node, which is of this pair
+pub nodes_next : (g h : PlainGraph) (pairs : List NodePair) (n : ℕ) (x : NodePair) (place : Place) (row : Row) (node : ℕ) → n < length pairs → x ≡ get_or pairs n x
+    → place ≡ record { router = x.place; peer = None } → row ≡ row_at g h x → node ≡ n
+    → node_mets g h (take (n + 1) pairs) 0 ≡ node_mets g h (take n pairs) 0 ++ met_if (record { place = place; row = row; node = node })
+nodes_next g h pairs n x place row node within read is_place is_row is_node =
+    ap (λ xs. node_mets g h xs 0) (take_next pairs n x within read) ∙ node_mets-push g h (take n pairs) x 0 n (omega (arith, length-take n pairs, within))
+    ∙ (λ i. node_mets g h (take n pairs) 0 ++ met_if (record { place = sym is_place i; row = sym is_row i; node = sym is_node i }))
+
+-- ---- steps
+
+pub steps_next : (g h : PlainGraph) (pairs : List NodePair) (steps : List (ℕ × ℕ)) (n : ℕ) (s : ℕ × ℕ) (x y : NodePair) (place : Place) (row : Row) (node : ℕ)
+    → n < length steps → s ≡ get_or steps n s → slice_get pairs s.0 ≡ Some x → slice_get pairs s.1 ≡ Some y
+    → place ≡ record { router = x.place; peer = Some y.place } → row ≡ row_at g h y → node ≡ s.0
+    → flat_map (step_mets g h pairs) (take (n + 1) steps) ≡ flat_map (step_mets g h pairs) (take n steps) ++ met_if (record { place = place; row = row; node = node })
+steps_next g h pairs steps n s x y place row node within read from to is_place is_row is_node =
+    ap (flat_map (step_mets g h pairs)) (take_next steps n s within read) ∙ flat_map-append (step_mets g h pairs) (take n steps) (s ∷ [])
+    ∙ ap (λ ms. flat_map (step_mets g h pairs) (take n steps) ++ ms) (append-nil (step_mets g h pairs s) ∙ one)
+  where
+    one : step_mets g h pairs s ≡ met_if (record { place = place; row = row; node = node })
+    one =
+        ap (λ (o : Option NodePair). met_between g h s.0 o (slice_get pairs s.1)) from ∙ ap (λ (o : Option NodePair). met_between g h s.0 (Some x) o) to
+        ∙ (λ i. met_if (record { place = sym is_place i; row = sym is_row i; node = sym is_node i }))
+
+-- what is met with no row
+pub not_met : (mets : List Met) (met : Met) → is_row met.row ≡ false → mets ≡ mets ++ met_if met
+not_met mets met off = sym (ap (λ (b : Bool). mets ++ (if b then met ∷ [] else [])) off ∙ append-nil mets)
+
+pub is_met : (mets : List Met) (met : Met) → is_row met.row ≡ true → mets ++ met ∷ [] ≡ mets ++ met_if met
+is_met mets met on = sym (ap (λ (b : Bool). mets ++ (if b then met ∷ [] else [])) on)

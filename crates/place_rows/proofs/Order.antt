@@ -9,22 +9,23 @@ use Rattle.compare_base.specs.declared.rows.Place.{Place}
 use Rattle.compare_base.specs.declared.rows.Row.{Row}
 use Rattle.pair_rows.specs.Meetings.{earlier, less_rank, same_place}
 use Rattle.pair_rows.proofs.RowsMet.{place_is, place_same}
+use Rattle.place_rows.specs.Noted.{same_row}
 
 -- ---- rows
 
 less_total : (a b : Option ℕ) → less_rank a b ≡ false → less_rank b a ≡ false → a ≡ b
-less_total (Some i) (Some j) one other = ap Some (omega (arith, ltb-false i j one, ltb-false j i other))
+less_total (Some i) (Some j) one other = let same : i ≡ j = omega (arith, ltb-false i j one, ltb-false j i other) in ap Some same
 less_total (Some i) None one other = absurd (true≢false one)
 less_total None (Some j) one other = absurd (true≢false other)
 less_total None None one other = refl
 
 -- the test of two rows by which they are the same
-pub same_row : (a b : Row) → (option_eq nat_eq a.old b.old && option_eq nat_eq a.new b.new) ≡ true → a ≡ b
-same_row a b is =
+pub row_is : (a b : Row) → same_row a b ≡ true → a ≡ b
+row_is a b is =
     let parts = and_parts (option_eq nat_eq a.old b.old) (option_eq nat_eq a.new b.new) is in
     λ i. record { old = option_eq-is a.old b.old parts.0 i; new = option_eq-is a.new b.new parts.1 i }
 
-row_same : (a b : Row) → a.old ≡ b.old → a.new ≡ b.new → (option_eq nat_eq a.old b.old && option_eq nat_eq a.new b.new) ≡ true
+pub row_same : (a b : Row) → a.old ≡ b.old → a.new ≡ b.new → same_row a b ≡ true
 row_same a b old new = and_from _ _ (is-option_eq a.old b.old old) (is-option_eq a.new b.new new)
 
 or_second : (x : Bool) {y : Bool} → y ≡ true → (x || y) ≡ true
@@ -32,7 +33,7 @@ or_second true is = refl
 or_second false is = is
 
 -- a row that is neither earlier nor the same is later
-pub later : (a b : Row) → earlier a b ≡ false → (option_eq nat_eq a.old b.old && option_eq nat_eq a.new b.new) ≡ false → earlier b a ≡ true
+pub later : (a b : Row) → earlier a b ≡ false → same_row a b ≡ false → earlier b a ≡ true
 later a b off apart =
     let parts = or_parts (less_rank a.old b.old) (option_eq nat_eq a.old b.old && less_rank a.new b.new) off in
     elim (cases_Bool (less_rank b.old a.old)) [

@@ -1,9 +1,9 @@
 -- The rows of places, where a place is added and where its rows are written.
 use Rattle.std.proofs.Common.{◌≡◌, ℕ, zero, suc, ◌+◌, ◌<◌, Bool, true, false, List, [], ◌∷◌, ◌++◌, Vec, length, set, refl, sym, ap, ap₂, ◌∙◌, arith, inl, inr, Some}
-use Rattle.std.specs.Prelude.{slice_get, if◌then◌else◌}
+use Rattle.std.specs.Prelude.{not, slice_get, if◌then◌else◌}
 use Rattle.std.specs.Global.{Global}
 use Rattle.std.specs.List.{list_any, position_or_len}
-use Rattle.std.proofs.lemmas.Bool.{cases_Bool, or_parts, true≢false}
+use Rattle.std.proofs.lemmas.Bool.{cases_Bool, not-false, not-true, or_parts, true≢false}
 use Rattle.std.proofs.lemmas.Option.{same_Some}
 use Rattle.list_law.proofs.Positions.{position_or_len-first, position_or_len-next, position_or_len-there}
 use Rattle.list_law.proofs.Truth.{either_way}
@@ -27,7 +27,9 @@ pub position_of_none : (p : Place → Bool) (keys : List Place) → list_any p k
 position_of_none p [] none = refl
 position_of_none p (k ∷ keys) none =
     let parts = or_parts (p k) (list_any p keys) none in
-    position_or_len-next p k keys parts.0 ∙ (omega (arith, position_of_none p keys parts.1))
+    let next = position_or_len-next p k keys parts.0 in
+    let rest = position_of_none p keys parts.1 in
+    omega (arith, next, rest)
 
 module _ (place : Place) where
   first_is : (k : Place) (keys : List Place) → same_place place k ≡ true → position_or_len (same_place place) (k ∷ keys) ≡ 0
@@ -46,7 +48,8 @@ module _ (place : Place) where
         let here : slice_get (r ∷ rows) 0 ≡ Some v = ap (slice_get (r ∷ rows)) (sym (first_is k keys t) ∙ sym at) ∙ there in
         ap (λ (u : Vec FirstRow Global). u.items) (sym (same_Some r v here)) ∙ sym (ap (λ b. if b then r.items else rows_for keys rows place) t)
     | inr t ↦
-        let behind : slice_get (r ∷ rows) (suc (position_or_len (same_place place) keys)) ≡ Some v = ap (slice_get (r ∷ rows)) (omega (arith, at, next_is k keys t)) ∙ there in
+        let next : suc (position_or_len (same_place place) keys) ≡ n = omega (arith, at, next_is k keys t) in
+        let behind : slice_get rows (position_or_len (same_place place) keys) ≡ Some v = ap (slice_get (r ∷ rows)) next ∙ there in
         rows_read keys rows v (position_or_len (same_place place) keys) (omega (arith, size)) refl behind ∙ sym (ap (λ b. if b then r.items else rows_for keys rows place) t)
   ]
 
@@ -63,7 +66,8 @@ module _ (place : Place) where
         ∙ ap (λ (a : Place). if same_place q a then w.items else rows_for keys rows q) same ∙ here (same_place q place) (same_place q k) (ap (same_place q) same)
     | inr t ↦
         let m = position_or_len (same_place place) keys in
-        ap (λ l. rows_for (k ∷ keys) (set (r ∷ rows) l w) q) (omega (arith, at, next_is k keys t) : n ≡ suc m)
+        let next : n ≡ suc m = omega (arith, at, next_is k keys t) in
+        ap (λ l. rows_for (k ∷ keys) (set (r ∷ rows) l w) q) next
         ∙ ap (λ (rest : List FirstRow). if same_place q k then r.items else rest) (rows_set keys rows w m q (omega (arith, size)) refl (omega (arith, within, at, next_is k keys t)))
         ∙ either (same_place q k) (same_place q place) (λ u v. true≢false (sym (place_same place k (sym (place_is q place v) ∙ place_is q k u)) ∙ t))
   ]
@@ -77,3 +81,27 @@ module _ (place : Place) where
       either true true apart = absurd (apart refl refl)
       either true false apart = refl
       either false y apart = refl
+
+-- ---- the number of a place
+
+module _ (place : Place) (keys after : List Place) (is_new : Bool) (n : ℕ) (grown : after ≡ (if list_any (same_place place) keys then keys else keys ++ place ∷ []))
+    (new : is_new ≡ not (list_any (same_place place) keys)) (number : n ≡ position_or_len (same_place place) keys) where
+  pub keys_kept : is_new ≡ false → after ≡ keys
+  keys_kept off = grown ∙ ap (λ (b : Bool). if b then keys else keys ++ place ∷ []) (not-false (list_any (same_place place) keys) (sym new ∙ off))
+
+  pub number_kept : is_new ≡ false → n ≡ position_or_len (same_place place) after
+  number_kept off = number ∙ ap (position_or_len (same_place place)) (sym (keys_kept off))
+
+  absent : is_new ≡ true → list_any (same_place place) keys ≡ false
+  absent on = not-true (list_any (same_place place) keys) (sym new ∙ on)
+
+  pub keys_grown : is_new ≡ true → after ≡ keys ++ place ∷ []
+  keys_grown on = grown ∙ ap (λ (b : Bool). if b then keys else keys ++ place ∷ []) (absent on)
+
+  pub number_grown : is_new ≡ true → n ≡ position_or_len (same_place place) after
+  number_grown on =
+      number ∙ position_of_none (same_place place) keys (absent on)
+      ∙ sym (ap (position_or_len (same_place place)) (keys_grown on) ∙ position_or_len-there (same_place place) keys place [] (absent on) (place_same place place refl))
+
+  pub number_last : is_new ≡ true → n ≡ length keys
+  number_last on = number ∙ position_of_none (same_place place) keys (absent on)

@@ -1,9 +1,10 @@
 -- A row that is met is put to the rows of its place.
-use Rattle.std.proofs.Common.{◌≡◌, ℕ, zero, suc, ◌+◌, ◌<◌, ◌≤◌, Bool, true, false, List, [], ◌∷◌, ◌++◌, drop, insert, length, min, set, take, refl, sym, ap, ◌∙◌, subst, arith, inl, inr, Some}
-use Rattle.std.specs.Prelude.{◌&&◌, nat_eq, not, slice_get}
+use Rattle.std.proofs.Common.{◌≡◌, ℕ, zero, suc, ◌+◌, ◌<◌, ◌≤◌, Bool, true, false, List, [], ◌∷◌, ◌++◌, drop, insert, length, min, set, take, refl, sym, ap, ◌∙◌, subst, arith, inl, inr, Option, Some, None}
+use Rattle.std.specs.Prelude.{not, slice_get}
 use Rattle.std.specs.List.{position_or_len}
-use Rattle.std.specs.Option.{option_eq}
+use Rattle.std.specs.Option.{option_map_or}
 use Rattle.std.proofs.lemmas.Bool.{cases_Bool, false≢true, not-false, not-true}
+use Rattle.std.proofs.lemmas.List.Sums.{prefix_len-le-length}
 use Rattle.std.proofs.lemmas.Option.{same_Some}
 use Rattle.list_law.proofs.Positions.{position_or_len-first, position_or_len-next}
 use Rattle.compare_base.specs.declared.rows.Row.{Row}
@@ -11,7 +12,8 @@ use Rattle.pair_rows.specs.declared.values.FirstRow.{FirstRow}
 use Rattle.pair_rows.specs.declared.values.Met.{Met}
 use Rattle.pair_rows.specs.Meetings.{AreFirst, earlier}
 use Rattle.pair_rows.proofs.NotedRows.{first_inserted, first_lowered}
-use Rattle.place_rows.proofs.Order.{later, same_row}
+use Rattle.place_rows.specs.Noted.{same_row}
+use Rattle.place_rows.proofs.Order.{later, row_is}
 
 -- ---- the first item that passes a test
 
@@ -32,7 +34,7 @@ at_position p (y ∷ ys) i x is at = elim (cases_Bool (p y)) [
   | inl t ↦ let here : slice_get (y ∷ ys) 0 ≡ Some x = ap (slice_get (y ∷ ys)) (sym (is ∙ position_or_len-first p y ys t)) ∙ at in ap p (sym (same_Some y x here)) ∙ t
   | inr t ↦
       let next : i ≡ suc (position_or_len p ys) = omega (arith, is, position_or_len-next p y ys t) in
-      let behind : slice_get ys (position_or_len p ys) ≡ Some x = ap (slice_get (y ∷ ys)) (sym next) ∙ at in
+      let behind : slice_get ys (position_or_len p ys) ≡ Some x = ap (λ (k : ℕ). slice_get (y ∷ ys) k) (sym next) ∙ at in
       at_position p ys (position_or_len p ys) x refl behind
 ]
 
@@ -49,11 +51,33 @@ module _ (mets : List Met) (rows : List FirstRow) (first : AreFirst mets rows) (
   there x at = not-true (earlier x.row met.row) (at_position (is_placed met.row) rows place x is at)
 
   -- a row that isn't there yet
-  pub note_new : place ≤ length rows → ((x : FirstRow) → slice_get rows place ≡ Some x → (option_eq nat_eq x.row.old met.row.old && option_eq nat_eq x.row.new met.row.new) ≡ false)
+  pub note_new : place ≤ length rows → ((x : FirstRow) → slice_get rows place ≡ Some x → same_row x.row met.row ≡ false)
       → AreFirst (mets ++ met ∷ []) (take place rows ++ record { row = met.row; node = met.node } ∷ drop place rows)
   note_new within apart = first_inserted mets rows first met place within before (λ x at. later x.row met.row (there x at) (apart x at))
 
   -- and one that is there
-  pub note_known : (x : FirstRow) → slice_get rows place ≡ Some x → (option_eq nat_eq x.row.old met.row.old && option_eq nat_eq x.row.new met.row.new) ≡ true
+  pub note_known : (x : FirstRow) → slice_get rows place ≡ Some x → same_row x.row met.row ≡ true
       → AreFirst (mets ++ met ∷ []) (set rows place (record { row = x.row; node = min x.node met.node }))
-  note_known x at same = first_lowered mets rows first met place x at (same_row x.row met.row same) (min x.node met.node) refl
+  note_known x at same = first_lowered mets rows first met place x at (row_is x.row met.row same) (min x.node met.node) refl
+
+-- ---- where a row stands
+
+abbrev stands_at : List FirstRow → ℕ → Row → Bool
+stands_at rows place row = option_map_or (λ (x : FirstRow). same_row x.row row) (slice_get rows place) false
+
+at_parts : (o : Option FirstRow) (row : Row) → option_map_or (λ (x : FirstRow). same_row x.row row) o false ≡ true → (x : FirstRow) × (o ≡ Some x) × (same_row x.row row ≡ true)
+at_parts (Some x) row on = (x, refl, on)
+at_parts None row on = absurd (false≢true on)
+
+module _ (mets : List Met) (rows : List FirstRow) (first : AreFirst mets rows) (met : Met) (place : ℕ) (is : place ≡ position_or_len (is_placed met.row) rows) (after : List FirstRow) where
+  pub noted_known : stands_at rows place met.row ≡ true
+      → ((x : FirstRow) → slice_get rows place ≡ Some x → after ≡ set rows place (record { row = x.row; node = min x.node met.node })) → AreFirst (mets ++ met ∷ []) after
+  noted_known on written =
+      let x = at_parts (slice_get rows place) met.row on in
+      subst (λ (xs : List FirstRow). AreFirst (mets ++ met ∷ []) xs) (sym (written x.0 x.1)) (note_known mets rows first met place is x.0 x.1 x.2)
+
+  pub noted_new : stands_at rows place met.row ≡ false → after ≡ take place rows ++ record { row = met.row; node = met.node } ∷ drop place rows → AreFirst (mets ++ met ∷ []) after
+  noted_new off written =
+      subst (λ (xs : List FirstRow). AreFirst (mets ++ met ∷ []) xs) (sym written)
+      (note_new mets rows first met place is (omega (arith, is, prefix_len-le-length (λ (x : FirstRow). not (is_placed met.row x)) rows))
+      (λ x at. ap (λ (o : Option FirstRow). option_map_or (λ (y : FirstRow). same_row y.row met.row) o false) (sym at) ∙ off))
