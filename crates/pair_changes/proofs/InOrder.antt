@@ -39,8 +39,9 @@ module _ {A : Type 0} (R : A → A → Type 0) where
   pub order_filter : (p : A → Bool) (xs : List A) → InOrder R xs → InOrder R (filter p xs)
   order_filter p [] all = order_none
   order_filter p (x ∷ xs) all = elim (cases_Bool (p x)) [
-    | inl t ↦ rw t (order_cons x (filter p xs) (λ z at. order_head x xs all z (IsIn-filter_parts p xs z at).0) (order_filter p xs (order_tail x xs all)))
-    | inr t ↦ rw t (order_filter p xs (order_tail x xs all))
+    | inl t ↦ subst (λ (b : Bool). InOrder R (if b then x ∷ filter p xs else filter p xs)) (sym t)
+        (order_cons x (filter p xs) (λ z at. order_head x xs all z (IsIn-filter_parts p xs z at).0) (order_filter p xs (order_tail x xs all)))
+    | inr t ↦ subst (λ (b : Bool). InOrder R (if b then x ∷ filter p xs else filter p xs)) (sym t) (order_filter p xs (order_tail x xs all))
   ]
 
   -- one more at the end

@@ -6,6 +6,7 @@ use Rattle.std.proofs.lemmas.Bool.{cases_Bool, cases_eq, cases_lt, cases_order, 
 use Rattle.std.proofs.lemmas.List.{append-nil}
 use Rattle.std.proofs.lemmas.List.Elements.{filter-append}
 use Rattle.std.proofs.lemmas.Option.{get_or_from_slice_get, same_Some, slice_get_within}
+use Rattle.group_law.proofs.Joining.{filter_nothing}
 use Rattle.list_law.specs.Members.{IsIn}
 use Rattle.list_law.proofs.Changed.{filter_same}
 use Rattle.list_law.proofs.Items.{from_behind, from_front, slice_get_in_front}
@@ -134,14 +135,14 @@ module _ (way : Place → Option Way) (done : List Place) (kinds : List Kind) (a
 
       each_joined : (a : Kind) → IsIn (set kinds i joined) a → a.places ≡ filter (of_kind a) (done ++ place ∷ [])
       each_joined a (j, at) = elim (item_set kinds i joined j a at) [
-        | replaced _ same ↦ subst (λ (b : Kind). b.places ≡ filter (of_kind b) (done ++ place ∷ [])) same
+        | replaced here same ↦ subst (λ (b : Kind). b.places ≡ filter (of_kind b) (done ++ place ∷ [])) same
             (ap (λ (ps : List Place). ps ++ place ∷ []) (are.each k (i, at_k)) ∙ grown_on k (on_kind k on))
         | kept off there ↦ are.each a (j, there) ∙ grown_off a (off_kind a (off_other j a there off))
       ]
 
       some_joined : (a : Kind) → IsIn (set kinds i joined) a → (x : Place) × (slice_get a.places 0 ≡ Some x)
       some_joined a (j, at) = elim (item_set kinds i joined j a at) [
-        | replaced _ same ↦
+        | replaced here same ↦
             let first = are.some k (i, at_k) in
             (first.0, ap (λ (b : Kind). slice_get b.places 0) (sym same) ∙ slice_get_in_front k.places (place ∷ []) 0 first.0 first.1)
         | kept off there ↦ are.some a (j, there)
@@ -206,10 +207,6 @@ module _ (way : Place → Option Way) (done : List Place) (kinds : List Kind) (a
             | inr t ↦ t
           ]
 
-      nothing : (xs : List Place) → ((q : Place) → IsIn xs q → of_kind begun q ≡ false) → filter (of_kind begun) xs ≡ []
-      nothing [] none = refl
-      nothing (x ∷ xs) none = rw (none x (0, refl)) (nothing xs (λ q at. none q (suc at.0, at.1)))
-
       begun_on : is_of w begun ≡ true
       begun_on = of_from w begun refl refl
 
@@ -217,7 +214,7 @@ module _ (way : Place → Option Way) (done : List Place) (kinds : List Kind) (a
       each_begun a at = elim (IsIn-push_cases kinds begun a at) [
         | inl t ↦ are.each a t ∙ grown_off a (off_kind a (off a t))
         | inr t ↦ subst (λ (b : Kind). b.places ≡ filter (of_kind b) (done ++ place ∷ [])) t
-            (ap (λ (ps : List Place). ps ++ place ∷ []) (sym (nothing done none_before)) ∙ grown_on begun (on_kind begun begun_on))
+            (ap (λ (ps : List Place). ps ++ place ∷ []) (sym (filter_nothing (of_kind begun) done none_before)) ∙ grown_on begun (on_kind begun begun_on))
       ]
 
       some_begun : (a : Kind) → IsIn (kinds ++ begun ∷ []) a → (x : Place) × (slice_get a.places 0 ≡ Some x)

@@ -129,9 +129,12 @@ routers_next net cases n r is_one place same one is_place_of =
     tested : (b : Bool) → is_place net cases n None ≡ b → is_one ≡ b
     tested b is = one ∙ ap (λ k. is_place net cases k None) same ∙ is
 
+    chosen : (b : Bool) → map router_place (if b then n ∷ [] else []) ≡ (if b then place ∷ [] else [])
+    chosen true = ap (λ (q : Place). q ∷ []) (ap router_place (sym same) ∙ sym is_place_of)
+    chosen false = refl
+
     last : (b : Bool) → is_place net cases n None ≡ b → map router_place (filter (λ k. is_place net cases k None) (n ∷ [])) ≡ (if is_one then place ∷ [] else [])
-    last true is = rw (is, tested true is) (ap (λ (q : Place). q ∷ []) (ap router_place (sym same) ∙ sym is_place_of))
-    last false is = rw (is, tested false is) refl
+    last b is = ap (λ (c : Bool). map router_place (if c then n ∷ [] else [])) is ∙ chosen b ∙ ap (λ (c : Bool). if c then place ∷ [] else []) (sym (tested b is))
 
 pub sessions_next : (net : PlainNet) (links : List (ℕ × ℕ)) (n : ℕ) (link : ℕ × ℕ) (is_one : Bool) (place : Place) → n < length links → link ≡ get_or links n link
     → is_one ≡ is_session net link → place ≡ session_place link
@@ -142,9 +145,12 @@ sessions_next net links n link is_one place within read one is_place_of =
     ∙ map-append session_place (filter (is_session net) (take n links)) (filter (is_session net) (link ∷ []))
     ∙ ap (λ ps. session_places net (take n links) ++ ps) (last (is_session net link) refl)
   where
+    chosen : (b : Bool) → map session_place (if b then link ∷ [] else []) ≡ (if b then place ∷ [] else [])
+    chosen true = ap (λ (q : Place). q ∷ []) (sym is_place_of)
+    chosen false = refl
+
     last : (b : Bool) → is_session net link ≡ b → map session_place (filter (is_session net) (link ∷ [])) ≡ (if is_one then place ∷ [] else [])
-    last true is = rw (is, one ∙ is) (ap (λ (q : Place). q ∷ []) (sym is_place_of))
-    last false is = rw (is, one ∙ is) refl
+    last b is = ap (λ (c : Bool). map session_place (if c then link ∷ [] else [])) is ∙ chosen b ∙ ap (λ (c : Bool). if c then place ∷ [] else []) (sym (one ∙ is))
 
 -- what is behind others, with more
 pub behind_next : {A : Type 0} (old items after xs longer more : List A) → after ≡ items ++ more → items ≡ old ++ xs → longer ≡ xs ++ more → after ≡ old ++ longer

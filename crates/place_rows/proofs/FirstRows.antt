@@ -19,14 +19,14 @@ use Rattle.place_rows.proofs.Order.{later, row_is}
 
 before_position : {A : Type 0} (p : A → Bool) (xs : List A) (i : ℕ) (x : A) → i < position_or_len p xs → slice_get xs i ≡ Some x → p x ≡ false
 before_position p [] i x less at = absurd cc
-before_position p (y ∷ ys) i x less at = elim (cases_Bool (p y)) [
+before_position p (y ∷ ys) zero x less at = elim (cases_Bool (p y)) [
   | inl t ↦ absurd (omega (arith, less, position_or_len-first p y ys t))
-  | inr t ↦ by i less at t
+  | inr t ↦ ap p (sym (same_Some y x at)) ∙ t
 ]
-  where
-    by : (i : ℕ) → i < position_or_len p (y ∷ ys) → slice_get (y ∷ ys) i ≡ Some x → p y ≡ false → p x ≡ false
-    by zero less at t = ap p (sym (same_Some y x at)) ∙ t
-    by (suc i) less at t = before_position p ys i x (omega (arith, less, position_or_len-next p y ys t)) at
+before_position p (y ∷ ys) (suc i) x less at = elim (cases_Bool (p y)) [
+  | inl t ↦ absurd (omega (arith, less, position_or_len-first p y ys t))
+  | inr t ↦ before_position p ys i x (omega (arith, less, position_or_len-next p y ys t)) at
+]
 
 at_position : {A : Type 0} (p : A → Bool) (xs : List A) (i : ℕ) (x : A) → i ≡ position_or_len p xs → slice_get xs i ≡ Some x → p x ≡ true
 at_position p [] i x is at = absurd cc
@@ -78,6 +78,8 @@ module _ (mets : List Met) (rows : List FirstRow) (first : AreFirst mets rows) (
 
   pub noted_new : stands_at rows place met.row ≡ false → after ≡ take place rows ++ record { row = met.row; node = met.node } ∷ drop place rows → AreFirst (mets ++ met ∷ []) after
   noted_new off written =
+      let low : position_or_len (is_placed met.row) rows ≤ length rows = prefix_len-le-length (λ (x : FirstRow). not (is_placed met.row x)) rows in
+      let within : place ≤ length rows = omega (arith, is, low) in
       subst (λ (xs : List FirstRow). AreFirst (mets ++ met ∷ []) xs) (sym written)
-      (note_new mets rows first met place is (omega (arith, is, prefix_len-le-length (λ (x : FirstRow). not (is_placed met.row x)) rows))
+      (note_new mets rows first met place is within
       (λ x at. ap (λ (o : Option FirstRow). option_map_or (λ (y : FirstRow). same_row y.row met.row) o false) (sym at) ∙ off))

@@ -29,7 +29,7 @@ module _ (mets : List Met) (met : Met) (keys : List Place) (rows : List (Vec Fir
     (n : ℕ) (at : n ≡ position_or_len (same_place met.place) keys) (within : n < length rows) (v w : Vec FirstRow Global) where
   -- the rows with the number of the place are those of the place
   pub read_first : slice_get rows n ≡ Some v → AreFirst (mets_at mets met.place) v.items
-  read_first there = subst (λ xs. AreFirst (mets_at mets met.place) xs) (sym (rows_read met.place keys rows v n size at there)) (noted met.place)
+  read_first there = subst (λ (xs : List FirstRow). AreFirst (mets_at mets met.place) xs) (sym (rows_read met.place keys rows v n size at there)) (noted met.place)
 
   module _ (first : AreFirst (mets_at mets met.place ++ met ∷ []) w.items) where
     written : (q : Place) → rows_for keys (set rows n w) q ≡ (if same_place q met.place then w.items else rows_for keys rows q)
@@ -41,12 +41,12 @@ module _ (mets : List Met) (met : Met) (keys : List Place) (rows : List (Vec Fir
       | inl t ↦
           let is : met.place ≡ q = place_is met.place q t in
           let here : AreFirst (mets_at mets q ++ met ∷ []) w.items = subst (λ (a : Place). AreFirst (mets_at mets a ++ met ∷ []) w.items) is first in
-          subst₂ (λ ms xs. AreFirst ms xs)
+          subst₂ (λ (ms : List Met) (xs : List FirstRow). AreFirst ms xs)
           (sym (mets_more mets met q ∙ ap (λ b. mets_at mets q ++ (if b then met ∷ [] else [])) t))
           (sym (written q ∙ ap (λ b. if b then w.items else rows_for keys rows q) (same_place_comm q met.place ∙ t)))
           here
       | inr t ↦
-          subst₂ (λ ms xs. AreFirst ms xs)
+          subst₂ (λ (ms : List Met) (xs : List FirstRow). AreFirst ms xs)
           (sym (mets_more mets met q ∙ ap (λ b. mets_at mets q ++ (if b then met ∷ [] else [])) t ∙ append-nil (mets_at mets q)))
           (sym (written q ∙ ap (λ b. if b then w.items else rows_for keys rows q) (same_place_comm q met.place ∙ t)))
           (noted q)
