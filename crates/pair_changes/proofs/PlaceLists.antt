@@ -156,3 +156,12 @@ sessions_next net links n link is_one place within read one is_place_of =
 pub behind_next : {A : Type 0} (old items after xs longer more : List A) → after ≡ items ++ more → items ≡ old ++ xs → longer ≡ xs ++ more → after ≡ old ++ longer
 behind_next old items after xs longer more is so_far grown =
     is ∙ ap (λ ys. ys ++ more) so_far ∙ append_assoc old xs more ∙ ap (λ ys. old ++ ys) (sym grown)
+
+-- routers and then sessions are all places
+pub listed : (net : PlainNet) (cases : CasePair) (n : ℕ) (none first items : List Place) → IsNet net → n ≡ length net.routers → none ≡ [] → first ≡ none ++ router_places net cases n
+    → items ≡ first ++ (if is_originated cases then session_places net net.links else []) → ArePlaces net cases items
+listed net cases n none first items rules all empty routers_are is =
+    subst (ArePlaces net cases) (sym (is ∙ ap (λ ps. ps ++ (if is_originated cases then session_places net net.links else [])) first_is)) (are_places net rules cases)
+  where
+    first_is : first ≡ router_places net cases (length net.routers)
+    first_is = routers_are ∙ ap (λ ps. ps ++ router_places net cases n) empty ∙ ap (router_places net cases) all
