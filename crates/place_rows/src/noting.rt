@@ -61,15 +61,15 @@ fn number_of(
     alloc: Global,
     places: &mut IndexSet<Place>,
     rows: &mut Vec<Vec<FirstRow>>,
-    place: Place,
+    place: &Place,
 ) -> Result<usize, NoMemory>
     requires size { length places.old.keys ≡ length rows.old.items }
     ensures size { OnOk result (length places.new.keys ≡ length rows.new.items) }
-    ensures number { IfOk result (λ number. number ≡ position_or_len (same_place place) places.new.keys) }
+    ensures number { IfOk result (λ number. number ≡ position_or_len (same_place place.now) places.new.keys) }
     ensures within { IfOk result (λ number. number < length rows.new.items) }
     ensures kept { OnOk result ((q : PlainPlace) → rows_for places.new.keys rows.new.items q ≡ rows_for places.old.keys rows.old.items q) }
 {
-    let (number, is_new) = places.insert_full(place)?;
+    let (number, is_new) = places.insert_full(*place)?;
     if !is_new {
         return Ok(number);
     }
@@ -82,14 +82,14 @@ pub(crate) fn note_at(
     alloc: Global,
     places: &mut IndexSet<Place>,
     rows: &mut Vec<Vec<FirstRow>>,
-    place: Place,
+    place: &Place,
     row: Row,
     node: u32,
 ) -> Result<(), NoMemory>
     requires size { length places.old.keys ≡ length rows.old.items }
     ensures size { OnOk result (length places.new.keys ≡ length rows.new.items) }
     ensures noted { (mets : Items Met) → AreNoted mets places.old.keys rows.old.items
-        → OnOk result (AreNoted (mets ++ met_if (record { place = place; row = row; node = node })) places.new.keys rows.new.items) }
+        → OnOk result (AreNoted (mets ++ met_if (record { place = place.now; row = row; node = node })) places.new.keys rows.new.items) }
 {
     if !is_row(row) {
         return Ok(());

@@ -48,7 +48,7 @@ fn note_nodes(
             alloc,
             places,
             rows,
-            place,
+            &place,
             row_of(first, second, pair),
             node as u32,
         )?;
@@ -82,7 +82,7 @@ fn note_steps(
             alloc,
             places,
             rows,
-            place,
+            &place,
             row_of(first, second, end),
             *from,
         )?;

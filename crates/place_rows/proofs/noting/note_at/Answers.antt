@@ -7,5 +7,5 @@ use Rattle.place_rows.proofs.noting.note_at.Goals as goal
 
 pub returns-then-not-is_row-clause-noted : goal.returns-then-not-is_row-clause-noted
 returns-then-not-is_row-clause-noted c = λ mets noted.
-    let met : Met = record { place = c.args.place; row = c.args.row; node = c.args.node } in
+    let met : Met = record { place = c.args.place.now; row = c.args.row; node = c.args.node } in
     subst (λ (ms : List Met). AreNoted ms c.args.places.now.keys c.args.rows.now.items) (not_met mets met (sym c.is_row.ensures ∙ c.if-not-is_row.true)) noted
