@@ -1,8 +1,8 @@
 -- A row that is met is put to the rows of its place.
-use Rattle.std.proofs.Common.{◌≡◌, ℕ, zero, suc, ◌+◌, ◌<◌, ◌≤◌, Bool, true, false, List, [], ◌∷◌, ◌++◌, drop, insert, length, min, set, take, refl, sym, ap, ◌∙◌, subst, arith, inl, inr, Option, Some, None}
-use Rattle.std.specs.Prelude.{not, slice_get}
-use Rattle.std.specs.List.{position_or_len}
-use Rattle.std.specs.Option.{option_map_or}
+use Rattle.std.proofs.Common.{◌≡◌, ℕ, zero, suc, ◌+◌, ◌<◌, ◌≤◌, Bool, true, false, List, [], ◌∷◌, ◌++◌, drop, insert, length, min, set, take, refl, sym, ap, ◌∙◌, subst, arith, inl, inr, Option, Some, None, cond, ltb-false}
+use Rattle.std.specs.Prelude.{nat_lt, not, slice_get}
+use Rattle.std.specs.List.{position, position_or_len}
+use Rattle.std.specs.Option.{option_map_or, unwrap_or}
 use Rattle.std.proofs.lemmas.Bool.{cases_Bool, false≢true, not-false, not-true}
 use Rattle.std.proofs.lemmas.List.Sums.{prefix_len-le-length}
 use Rattle.std.proofs.lemmas.Option.{same_Some}
@@ -38,9 +38,23 @@ at_position p (y ∷ ys) i x is at = elim (cases_Bool (p y)) [
       at_position p ys (position_or_len p ys) x refl behind
 ]
 
+pub position_within : {A : Type 0} (p : A → Bool) (xs : List A) → position_or_len p xs ≤ length xs
+position_within {A = A} p xs = prefix_len-le-length (λ (x : A). not (p x)) xs
+
+-- the place of the first such item, or that behind all
+pub position_or_behind : {A : Type 0} (p : A → Bool) (xs : List A) → unwrap_or (position p xs) (length xs) ≡ position_or_len p xs
+position_or_behind p xs =
+    let n = position_or_len p xs in
+    elim (cases_Bool (nat_lt n (length xs))) [
+      | inl t ↦ ap (λ b. unwrap_or (cond b (Some n) None) (length xs)) t
+      | inr t ↦
+          let same : length xs ≡ n = omega (arith, ltb-false n (length xs) t, position_within p xs) in
+          ap (λ b. unwrap_or (cond b (Some n) None) (length xs)) t ∙ same
+    ]
+
 -- ---- rows
 
-abbrev is_placed : Row → FirstRow → Bool
+abbrev pub is_placed : Row → FirstRow → Bool
 is_placed row x = not (earlier x.row row)
 
 module _ (mets : List Met) (rows : List FirstRow) (first : AreFirst mets rows) (met : Met) (place : ℕ) (is : place ≡ position_or_len (is_placed met.row) rows) where
@@ -62,7 +76,7 @@ module _ (mets : List Met) (rows : List FirstRow) (first : AreFirst mets rows) (
 
 -- ---- where a row stands
 
-abbrev stands_at : List FirstRow → ℕ → Row → Bool
+abbrev pub stands_at : List FirstRow → ℕ → Row → Bool
 stands_at rows place row = option_map_or (λ (x : FirstRow). same_row x.row row) (slice_get rows place) false
 
 at_parts : (o : Option FirstRow) (row : Row) → option_map_or (λ (x : FirstRow). same_row x.row row) o false ≡ true → (x : FirstRow) × (o ≡ Some x) × (same_row x.row row ≡ true)
@@ -78,8 +92,7 @@ module _ (mets : List Met) (rows : List FirstRow) (first : AreFirst mets rows) (
 
   pub noted_new : stands_at rows place met.row ≡ false → after ≡ take place rows ++ record { row = met.row; node = met.node } ∷ drop place rows → AreFirst (mets ++ met ∷ []) after
   noted_new off written =
-      let low : position_or_len (is_placed met.row) rows ≤ length rows = prefix_len-le-length (λ (x : FirstRow). not (is_placed met.row x)) rows in
-      let within : place ≤ length rows = omega (arith, is, low) in
+      let within : place ≤ length rows = omega (arith, is, position_within (is_placed met.row) rows) in
       subst (λ (xs : List FirstRow). AreFirst (mets ++ met ∷ []) xs) (sym written)
       (note_new mets rows first met place is within
       (λ x at. ap (λ (o : Option FirstRow). option_map_or (λ (y : FirstRow). same_row y.row met.row) o false) (sym at) ∙ off))

@@ -5,6 +5,7 @@ use Rattle.std.specs.Global.{Global}
 use Rattle.std.specs.List.{flat_map, position_or_len}
 use Rattle.std.proofs.lemmas.Bool.{cases_Bool}
 use Rattle.std.proofs.lemmas.List.{append-nil}
+use Rattle.std.proofs.lemmas.Option.{same_Some, slice_get-get_or}
 use Rattle.std.proofs.lemmas.Grind.{flat_map-append}
 use Rattle.std.proofs.lemmas.List.Elements.{filter-append}
 use Rattle.group_law.proofs.Taken.{take_next}
@@ -79,14 +80,21 @@ nodes_next g h pairs n x place row node within read is_place is_row is_node =
 
 -- ---- steps
 
+-- a pair that is read at a place
+pub pair_read : (pairs read : List NodePair) (n : ℕ) (x : NodePair) → read ≡ pairs → n < length pairs → x ≡ get_or read n x → slice_get pairs n ≡ Some x
+pair_read pairs read n x same within is = slice_get-get_or pairs n x within ∙ ap Some (sym (is ∙ ap (λ (xs : List NodePair). get_or xs n x) same))
+
 pub steps_next : (g h : PlainGraph) (pairs : List NodePair) (steps : List (ℕ × ℕ)) (n : ℕ) (s : ℕ × ℕ) (x y : NodePair) (place : Place) (row : Row) (node : ℕ)
-    → n < length steps → s ≡ get_or steps n s → slice_get pairs s.0 ≡ Some x → slice_get pairs s.1 ≡ Some y
+    → n < length steps → s ≡ get_or steps n (0, 0) → slice_get pairs s.0 ≡ Some x → slice_get pairs s.1 ≡ Some y
     → place ≡ record { router = x.place; peer = Some y.place } → row ≡ row_at g h y → node ≡ s.0
     → flat_map (step_mets g h pairs) (take (n + 1) steps) ≡ flat_map (step_mets g h pairs) (take n steps) ++ met_if (record { place = place; row = row; node = node })
 steps_next g h pairs steps n s x y place row node within read from to is_place is_row is_node =
-    ap (flat_map (step_mets g h pairs)) (take_next steps n s within read) ∙ flat_map-append (step_mets g h pairs) (take n steps) (s ∷ [])
+    ap (flat_map (step_mets g h pairs)) (take_next steps n s within same) ∙ flat_map-append (step_mets g h pairs) (take n steps) (s ∷ [])
     ∙ ap (λ ms. flat_map (step_mets g h pairs) (take n steps) ++ ms) (append-nil (step_mets g h pairs s) ∙ one)
   where
+    same : s ≡ get_or steps n s
+    same = read ∙ same_Some (get_or steps n (0, 0)) (get_or steps n s) (sym (slice_get-get_or steps n (0, 0) within) ∙ slice_get-get_or steps n s within)
+
     one : step_mets g h pairs s ≡ met_if (record { place = place; row = row; node = node })
     one =
         ap (λ (o : Option NodePair). met_between g h s.0 o (slice_get pairs s.1)) from ∙ ap (λ (o : Option NodePair). met_between g h s.0 (Some x) o) to

@@ -1,11 +1,11 @@
 -- The rows of places, where a place is added and where its rows are written.
-use Rattle.std.proofs.Common.{◌≡◌, ℕ, zero, suc, ◌+◌, ◌<◌, Bool, true, false, List, [], ◌∷◌, ◌++◌, Vec, length, set, refl, sym, ap, ap₂, ◌∙◌, arith, inl, inr, Some}
-use Rattle.std.specs.Prelude.{not, slice_get, if◌then◌else◌}
+use Rattle.std.proofs.Common.{◌≡◌, ℕ, zero, suc, ◌+◌, ◌<◌, Bool, true, false, List, [], ◌∷◌, ◌++◌, Vec, length, set, refl, sym, ap, ap₂, ◌∙◌, arith, inl, inr, Some, None}
+use Rattle.std.specs.Prelude.{nat_lt, slice_get, if◌then◌else◌}
 use Rattle.std.specs.Global.{Global}
-use Rattle.std.specs.List.{list_any, position_or_len}
-use Rattle.std.proofs.lemmas.Bool.{cases_Bool, not-false, not-true, or_parts, true≢false}
-use Rattle.std.proofs.lemmas.Option.{same_Some}
-use Rattle.list_law.proofs.Positions.{position_or_len-first, position_or_len-next, position_or_len-there}
+use Rattle.std.specs.List.{list_any, position, position_or_len}
+use Rattle.std.proofs.lemmas.Bool.{cases_Bool, or_parts, true≢false}
+use Rattle.std.proofs.lemmas.Option.{cond_some, same_Some}
+use Rattle.list_law.proofs.Positions.{list_any-no_position, position_or_len-first, position_or_len-next, position_or_len-there}
 use Rattle.list_law.proofs.Truth.{either_way}
 use Rattle.compare_base.specs.declared.rows.Place.{Place}
 use Rattle.pair_rows.specs.declared.values.FirstRow.{FirstRow}
@@ -21,15 +21,6 @@ rows_pushed [] (r ∷ rows) k w q size none = absurd (omega (arith, size))
 rows_pushed (a ∷ keys) [] k w q size none = absurd (omega (arith, size))
 rows_pushed (a ∷ keys) (r ∷ rows) k w q size none =
     ap (λ (rest : List FirstRow). if same_place q a then r.items else rest) (rows_pushed keys rows k w q (omega (arith, size)) none)
-
--- where no place is the same, the first such place is behind all
-pub position_of_none : (p : Place → Bool) (keys : List Place) → list_any p keys ≡ false → position_or_len p keys ≡ length keys
-position_of_none p [] none = refl
-position_of_none p (k ∷ keys) none =
-    let parts = or_parts (p k) (list_any p keys) none in
-    let next = position_or_len-next p k keys parts.0 in
-    let rest = position_of_none p keys parts.1 in
-    omega (arith, next, rest)
 
 module _ (place : Place) where
   first_is : (k : Place) (keys : List Place) → same_place place k ≡ true → position_or_len (same_place place) (k ∷ keys) ≡ 0
@@ -82,26 +73,26 @@ module _ (place : Place) where
       either true false apart = refl
       either false y apart = refl
 
+-- a place that isn't there has no rows
+pub rows_absent : (place : Place) (keys : List Place) (rows : List (Vec FirstRow Global)) → list_any (same_place place) keys ≡ false → [] ≡ rows_for keys rows place
+rows_absent place [] rows off = refl
+rows_absent place (k ∷ keys) [] off = refl
+rows_absent place (k ∷ keys) (r ∷ rows) off =
+    let parts = or_parts (same_place place k) (list_any (same_place place) keys) off in
+    rows_absent place keys rows parts.1 ∙ sym (ap (λ b. if b then r.items else rows_for keys rows place) parts.0)
+
 -- ---- the number of a place
 
-module _ (place : Place) (keys after : List Place) (is_new : Bool) (n : ℕ) (grown : after ≡ (if list_any (same_place place) keys then keys else keys ++ place ∷ []))
-    (new : is_new ≡ not (list_any (same_place place) keys)) (number : n ≡ position_or_len (same_place place) keys) where
-  pub keys_kept : is_new ≡ false → after ≡ keys
-  keys_kept off = grown ∙ ap (λ (b : Bool). if b then keys else keys ++ place ∷ []) (not-false (list_any (same_place place) keys) (sym new ∙ off))
+pub number_found : (place : Place) (keys : List Place) (n : ℕ) → position (same_place place) keys ≡ Some n → n ≡ position_or_len (same_place place) keys
+number_found place keys n is = let p = same_place place in sym (cond_some (nat_lt (position_or_len p keys) (length keys)) (position_or_len p keys) n is).1
 
-  pub number_kept : is_new ≡ false → n ≡ position_or_len (same_place place) after
-  number_kept off = number ∙ ap (position_or_len (same_place place)) (sym (keys_kept off))
+module _ (place : Place) (keys after : List Place) (absent : position (same_place place) keys ≡ None)
+    (grown : after ≡ (if list_any (same_place place) keys then keys else keys ++ place ∷ [])) where
+  pub keys_grown : after ≡ keys ++ place ∷ []
+  keys_grown = grown ∙ ap (λ (b : Bool). if b then keys else keys ++ place ∷ []) (list_any-no_position (same_place place) keys absent)
 
-  absent : is_new ≡ true → list_any (same_place place) keys ≡ false
-  absent on = not-true (list_any (same_place place) keys) (sym new ∙ on)
-
-  pub keys_grown : is_new ≡ true → after ≡ keys ++ place ∷ []
-  keys_grown on = grown ∙ ap (λ (b : Bool). if b then keys else keys ++ place ∷ []) (absent on)
-
-  pub number_grown : is_new ≡ true → n ≡ position_or_len (same_place place) after
-  number_grown on =
-      number ∙ position_of_none (same_place place) keys (absent on)
-      ∙ sym (ap (position_or_len (same_place place)) (keys_grown on) ∙ position_or_len-there (same_place place) keys place [] (absent on) (place_same place place refl))
-
-  pub number_last : is_new ≡ true → n ≡ length keys
-  number_last on = number ∙ position_of_none (same_place place) keys (absent on)
+  pub number_grown : (n : ℕ) → n ≡ length keys → n ≡ position_or_len (same_place place) after
+  number_grown n is =
+      is
+      ∙ sym (ap (position_or_len (same_place place)) keys_grown
+      ∙ position_or_len-there (same_place place) keys place [] (list_any-no_position (same_place place) keys absent) (place_same place place refl))

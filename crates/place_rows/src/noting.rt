@@ -69,10 +69,11 @@ fn number_of(
     ensures within { IfOk result (λ number. number < length rows.new.items) }
     ensures kept { OnOk result ((q : PlainPlace) → rows_for places.new.keys rows.new.items q ≡ rows_for places.old.keys rows.old.items q) }
 {
-    let (number, is_new) = places.insert_full(*place)?;
-    if !is_new {
+    if let Some(number) = places.get_index_of(place) {
         return Ok(number);
     }
+    let number = rows.len();
+    places.insert(*place)?;
     rows.push(Vec::new(alloc))?;
     Ok(number)
 }
