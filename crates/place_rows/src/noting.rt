@@ -12,6 +12,7 @@ use crate::row::{is_earlier, is_row};
 use compare_base::{Place, Row};
 use indexmap::IndexSet;
 use input_output::NoMemory;
+use net_base::Loc;
 use pair_rows::FirstRow;
 use std::alloc::Global;
 
@@ -73,7 +74,9 @@ fn number_of(
         return Ok(number);
     }
     let number = rows.len();
-    places.insert(*place)?;
+    // put together anew, since the prover has to meet the types of its parts here
+    let Place { router, peer } = *place;
+    places.insert(Place { router, peer })?;
     rows.push(Vec::new(alloc))?;
     Ok(number)
 }
