@@ -1,5 +1,5 @@
 -- A row that is met is put to the rows of its place.
-use Rattle.std.proofs.Common.{◌≡◌, ℕ, zero, suc, ◌+◌, ◌<◌, ◌≤◌, Bool, true, false, List, [], ◌∷◌, ◌++◌, drop, insert, length, min, set, take, refl, sym, ap, ◌∙◌, subst, arith, inl, inr, Option, Some, None, cond, ltb-false}
+use Rattle.std.proofs.Common.{◌≡◌, ℕ, zero, suc, ◌<◌, ◌≤◌, Bool, true, false, List, [], ◌∷◌, ◌++◌, drop, length, min, set, take, refl, sym, ap, ◌∙◌, subst, arith, inl, inr, Option, Some, None, cond, ltb-false}
 use Rattle.std.specs.Prelude.{nat_lt, not, slice_get}
 use Rattle.std.specs.List.{position, position_or_len}
 use Rattle.std.specs.Option.{option_map_or, unwrap_or}

@@ -1,6 +1,6 @@
 -- What is met, as one node or step follows another.
-use Rattle.std.proofs.Common.{◌≡◌, ℕ, ◌+◌, ◌<◌, Bool, true, false, List, [], ◌∷◌, ◌++◌, Vec, get_or, length, length-take, set, take, refl, sym, ap, ◌∙◌, subst, subst₂, append_assoc, arith, inl, inr, Option, Some, None}
-use Rattle.std.specs.Prelude.{slice_get, filter, if◌then◌else◌}
+use Rattle.std.proofs.Common.{◌≡◌, ℕ, ◌+◌, ◌<◌, Bool, true, false, List, [], ◌∷◌, ◌++◌, Vec, get_or, length, length-take, set, take, sym, ap, ◌∙◌, subst, subst₂, append_assoc, arith, inl, inr, Option, Some, None}
+use Rattle.std.specs.Prelude.{slice_get, if◌then◌else◌}
 use Rattle.std.specs.Global.{Global}
 use Rattle.std.specs.List.{flat_map, position_or_len}
 use Rattle.std.proofs.lemmas.Bool.{cases_Bool}
@@ -16,7 +16,6 @@ use Rattle.compare_base.specs.declared.rows.Row.{Row}
 use Rattle.pair_rows.specs.declared.values.FirstRow.{FirstRow}
 use Rattle.pair_rows.specs.declared.values.Met.{Met}
 use Rattle.pair_rows.specs.Meetings.{AreFirst, is_at, is_row, met_between, met_if, mets_at, node_mets, row_at, same_place, step_mets}
-use Rattle.pair_rows.proofs.NotedRows.{first_none}
 use Rattle.pair_rows.proofs.RowsMet.{place_is}
 use Rattle.place_rows.specs.Noted.{AreNoted, rows_for}
 use Rattle.place_rows.proofs.Order.{same_place_comm}
@@ -52,10 +51,6 @@ module _ (mets : List Met) (met : Met) (keys : List Place) (rows : List (Vec Fir
           (sym (written q ∙ ap (λ b. if b then w.items else rows_for keys rows q) (same_place_comm q met.place ∙ t)))
           (noted q)
     ]
-
--- no place has rows where nothing is met
-pub noted_none : AreNoted [] [] []
-noted_none q = first_none
 
 -- ---- nodes
 

@@ -1,4 +1,4 @@
-use Rattle.std.proofs.Common.{◌≡◌, ◌∙◌, List, ap, arith, false, not, sym, true}
+use Rattle.std.proofs.Common.{◌≡◌, ◌∙◌, List, ap, arith, false, sym, true}
 use Rattle.std.specs.List.{position_or_len}
 use Rattle.pair_rows.specs.declared.values.FirstRow.{FirstRow}
 use Rattle.pair_rows.specs.declared.values.Met.{Met}

@@ -1,4 +1,4 @@
-use Rattle.std.proofs.Common.{◌≡◌, ◌+◌, ◌++◌, ◌<◌, ◌∙◌, ℕ, List, Some, ap, append_assoc, arith, get_or, length, refl, subst, sym, take, take_all}
+use Rattle.std.proofs.Common.{◌≡◌, ◌++◌, ◌<◌, ◌∙◌, ℕ, List, Some, ap, append_assoc, arith, get_or, length, refl, subst, sym, take, take_all}
 use Rattle.std.specs.List.{flat_map}
 use Rattle.compare_base.specs.declared.rows.Place.{Place}
 use Rattle.pair_graph.specs.declared.pair.NodePair.{NodePair}
