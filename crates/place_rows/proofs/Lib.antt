@@ -1,0 +1,4 @@
+pub mod Order
+mod Tables
+mod Mets
+mod FirstRows

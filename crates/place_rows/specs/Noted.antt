@@ -1,0 +1,22 @@
+-- Rows that are noted at their places.
+use Rattle.std.specs.Prelude.{Bool, ◌&&◌, nat_eq, List, [], ◌∷◌, Vec, if◌then◌else◌}
+use Rattle.std.specs.Global.{Global}
+use Rattle.std.specs.Option.{option_eq}
+use Rattle.compare_base.specs.declared.rows.Place.{Place}
+use Rattle.compare_base.specs.declared.rows.Row.{Row}
+use Rattle.pair_rows.specs.declared.values.FirstRow.{FirstRow}
+use Rattle.pair_rows.specs.declared.values.Met.{Met}
+use Rattle.pair_rows.specs.Meetings.{AreFirst, mets_at, same_place}
+
+abbrev pub same_row : Row → Row → Bool
+same_row a b = option_eq nat_eq a.old b.old && option_eq nat_eq a.new b.new
+
+-- the rows of a place, where each place has its own; a place that isn't there has none
+abbrev pub rows_for : List Place → List (Vec FirstRow Global) → Place → List FirstRow
+rows_for [] rows place = []
+rows_for (k ∷ keys) [] place = []
+rows_for (k ∷ keys) (r ∷ rows) place = if same_place place k then r.items else rows_for keys rows place
+
+-- Each place has the rows that are met there, with their least nodes.
+abbrev pub AreNoted : List Met → List Place → List (Vec FirstRow Global) → Type 0
+AreNoted mets keys rows = (place : Place) → AreFirst (mets_at mets place) (rows_for keys rows place)
