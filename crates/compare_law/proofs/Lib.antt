@@ -1,12 +1,12 @@
 mod Ranked
 mod Cases
-mod Rows
+pub mod Rows
 mod Origins
 mod Alike
 mod Bare
-mod Same
+pub mod Same
 mod Failing
 mod Alone
 mod Lost
 mod First
-mod Unsaid
+pub mod Unsaid

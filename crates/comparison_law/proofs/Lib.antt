@@ -1,0 +1,5 @@
+mod Listed
+mod Places
+mod Agreeing
+mod Told
+mod One

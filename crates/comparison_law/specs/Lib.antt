@@ -1,0 +1,3 @@
+pub mod Comparisons
+pub mod Laws
+pub mod One

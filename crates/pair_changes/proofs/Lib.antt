@@ -1,0 +1,11 @@
+mod InOrder
+mod PlaceLists
+mod KindTests
+mod KindSteps
+mod OneMore
+mod Carrying
+mod Changed
+mod Shows
+mod WalkLists
+mod Needed
+mod Whole
