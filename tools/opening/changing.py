@@ -1,8 +1,8 @@
 """A change of policy, as a running network takes it: the configurations of its stages, who has something to load in each, and what a
 router's block gains and loses there.
 
-The configurations are the program's: what `compile` writes of the policy that runs, what `renew` writes of the new one, and what
-`between` writes of these two. Here their texts are compared, block by block and line by line.
+The configurations are the program's: what `compile` writes of the policy that runs, what `renew` writes of the new one with the evidence of
+the old, and what `between` writes of these two. Here their texts are compared, block by block and line by line.
 """
 from __future__ import annotations
 
@@ -40,8 +40,9 @@ def configurations(ask: Ask, topology: bytes, before: bytes, after: bytes) -> di
             raise Unwritten(command, answer, texts)
         return answer.output
 
-    old = written("compile", {"topology.json": topology, "policy.propane": before})
-    new = written("renew", {"topology.json": topology, "policy.propane": after, "config.txt": old})
+    running = {"topology.json": topology, "policy.propane": before}
+    old, evidence = written("compile", running), written("evidence", running)
+    new = written("renew", {"topology.json": topology, "policy.propane": after, "config.txt": old, "evidence.json": evidence})
     between = {stage: written("between", {"before.txt": old, "after.txt": new}, number) for stage, number in NUMBERS.items()}
     return {stage: text.decode() for stage, text in ({Stage.OLD: old} | between | {Stage.NEW: new}).items()}
 

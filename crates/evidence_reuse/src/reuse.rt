@@ -1,12 +1,13 @@
 //! What may take over, with what stays.
-ghost use Rattle.std.specs.Prelude.{◌≡◌, ◌<◌, IfErr, IfOk, length, map};
+ghost use Rattle.std.specs.Prelude.{◌≡◌, ◌<◌, ◌↔◌, ℕ, IfErr, IfOk, IsTrue, length, map};
 ghost use Rattle.policy_base.specs.Policies.{policy_of};
 ghost use Rattle.policy_base.specs.CaseNumbers.{OriginsAreRouters};
 ghost use Rattle.evidence_base.specs.Made.{PlainCaseEvidence};
 ghost use Rattle.config_maker.specs.Conditions.{AreClasses, AreSingle};
 ghost use Rattle.compile_core.specs.Compiling.{IsEvidenceOfMade};
+ghost use Rattle.evidence_verdicts.specs.Rules.{KeepsTag};
 ghost use Rattle.stage_classes.specs.Cells.{cells as cells_between};
-ghost use Rattle.evidence_reuse.specs.Reused.{AreForEach, AreReused, IsFault, IsReuse, IsReusedCase, IsStop, MayTakeOver, classes_of, with_marks};
+ghost use Rattle.evidence_reuse.specs.Reused.{AreForEach, AreReused, IsFault, IsReuse, IsReusedCase, IsStop, LetsTakeOver, MayTakeOver, classes_of, with_marks};
 
 use crate::fault::ReuseFault;
 use crate::staying::Before;
@@ -39,7 +40,7 @@ fn marked(alloc: Global, case: &CaseEvidence, source: &CaseEvidence) -> Result<C
 {
     let numbers = List::from_vec(Vec::from_slice(alloc, source.prefs())?);
     let tags = List::from_vec(Vec::from_slice(alloc, source.tags())?);
-    let graph = case.graph().copy(alloc)?;
+    let graph = source.graph().copy(alloc)?;
     let copy = case_copy(alloc, case.case())?;
     Ok(CaseEvidence::new(copy, graph, Prefs { of: numbers }, tags))
 }
@@ -83,6 +84,41 @@ fn reused_cases(
     Ok(all)
 }
 
+// Whether nothing of tags and preferences is in the way.
+fn lets_take_over(verdict: Verdict) -> bool
+    ensures { IsTrue result ↔ LetsTakeOver verdict }
+{
+    match verdict {
+        Verdict::SharedTag(_) | Verdict::LowPref(_) => false,
+        Verdict::MayMix | Verdict::Unlike(_) | Verdict::TooManyLines(_) => true,
+    }
+}
+
+// The configuration of cases whose tags are right, where it may take over from an old one.
+fn made_config(
+    alloc: Global,
+    net: &Net,
+    policy: &Policy,
+    cells: &[Cell],
+    old: &Config,
+    cases: &[CaseEvidence],
+) -> Result<Config, ReuseFault>
+    requires classes { AreClasses (policy_of policy.now) (map (λ (c : PlainCaseEvidence). c.case) cases.now) }
+    requires single { AreSingle net.now cases.now }
+    requires cells { cells.now ≡ cells_between old.now.classes (classes_of (policy_of policy.now) cases.now) }
+    requires tags { (k n : ℕ) → KeepsTag net.now cases.now k n }
+    ensures may { IfOk result (λ config. MayTakeOver net.now (policy_of policy.now) old.now config cases.now) }
+    ensures stop { IfErr result (IsStop net.now (policy_of policy.now) old.now cases.now) }
+{
+    let config = config_of(alloc, net, policy, cases)?;
+    let verdict = verdict_on(alloc, cells, old, &config)?;
+    if lets_take_over(verdict) {
+        Ok(config)
+    } else {
+        Err(ReuseFault::OtherEvidence)
+    }
+}
+
 // The configuration of cases, where it may take over from an old one.
 fn judged_config(
     alloc: Global,
@@ -98,13 +134,9 @@ fn judged_config(
     ensures may { IfOk result (λ config. MayTakeOver net.now (policy_of policy.now) old.now config cases.now) }
     ensures stop { IfErr result (IsStop net.now (policy_of policy.now) old.now cases.now) }
 {
-    if tag_fault(alloc, net, cases)?.is_some() {
-        return Err(ReuseFault::OtherEvidence);
-    }
-    let config = config_of(alloc, net, policy, cases)?;
-    match verdict_on(alloc, cells, old, &config)? {
-        Verdict::SharedTag(_) | Verdict::LowPref(_) => Err(ReuseFault::OtherEvidence),
-        Verdict::MayMix | Verdict::Unlike(_) | Verdict::TooManyLines(_) => Ok(config),
+    match tag_fault(alloc, net, cases)? {
+        Some(_) => Err(ReuseFault::OtherEvidence),
+        None => made_config(alloc, net, policy, cells, old, cases),
     }
 }
 
