@@ -2,7 +2,7 @@
 use Rattle.std.proofs.Common.{◌≡◌, ℕ, ◌+◌, ◌<◌, List, [], ◌∷◌, ◌++◌, map, length, Some, option_map, refl, sym, ap, ◌∙◌, subst, arith, inl, inr}
 use Rattle.std.specs.Prelude.{slice_get}
 use Rattle.std.proofs.lemmas.Bool.{cases_lt}
-use Rattle.std.proofs.lemmas.List.{length-map}
+use Rattle.std.proofs.lemmas.List.{length-append, length-map}
 use Rattle.std.proofs.lemmas.Option.{same_Some, slice_get-map, slice_get_within}
 use Rattle.list_law.proofs.Items.{from_front, same_by_places, same_item, slice_get-there, slice_get_inside}
 use Rattle.net_base.specs.declared.numbers.Tag.{Tag}
@@ -91,7 +91,7 @@ module _ (old new : List (List PlainPattern)) (olds : List PlainCaseEvidence) wh
   reused_push cs fs all x each last k c f d at also there = elim (cases_lt k (length all)) [
     | inl before ↦ each k c f d at also (from_front all (x ∷ []) k d there before)
     | inr after ↦
-        let end : length (all ++ x ∷ []) ≡ length all + 1 = omega arith in
+        let end : length (all ++ x ∷ []) ≡ length all + 1 = length-append all (x ∷ []) in
         let is : k ≡ length all = omega (arith, after, slice_get_within (all ++ x ∷ []) k d there, end) in
         let same : x ≡ d = same_item (all ++ x ∷ []) (length all) k x d (slice_get-there all x []) there (sym is) in
         let P : ℕ → Type 0 = λ i. IsReusedCase old new olds i c f d in
