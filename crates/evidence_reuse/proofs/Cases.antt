@@ -84,20 +84,35 @@ module _ (old new : List (List PlainPattern)) (olds : List PlainCaseEvidence) wh
 
   -- ---- one more
 
-  pub reused_push : (cs fs all : List PlainCaseEvidence) (x : PlainCaseEvidence)
-      → ((k : ℕ) (c f d : PlainCaseEvidence) → slice_get cs k ≡ Some c → slice_get fs k ≡ Some f → slice_get all k ≡ Some d → IsReusedCase old new olds k c f d)
-      → ((c f : PlainCaseEvidence) → slice_get cs (length all) ≡ Some c → slice_get fs (length all) ≡ Some f → IsReusedCase old new olds (length all) c f x)
-      → (k : ℕ) (c f d : PlainCaseEvidence) → slice_get cs k ≡ Some c → slice_get fs k ≡ Some f → slice_get (all ++ x ∷ []) k ≡ Some d → IsReusedCase old new olds k c f d
-  reused_push cs fs all x each last k c f d at also there = elim (cases_lt k (length all)) [
-    | inl before ↦ each k c f d at also (from_front all (x ∷ []) k d there before)
-    | inr after ↦
-        let end : length (all ++ x ∷ []) ≡ length all + 1 = length-append all (x ∷ []) in
-        let is : k ≡ length all = omega (arith, after, slice_get_within (all ++ x ∷ []) k d there, end) in
-        let same : x ≡ d = same_item (all ++ x ∷ []) (length all) k x d (slice_get-there all x []) there (sym is) in
-        let P : ℕ → Type 0 = λ i. IsReusedCase old new olds i c f d in
-        let Q : PlainCaseEvidence → Type 0 = λ e. IsReusedCase old new olds (length all) c f e in
-        subst P (sym is) (subst Q same (last c f (subst (λ i. slice_get cs i ≡ Some c) is at) (subst (λ i. slice_get fs i ≡ Some f) is also)))
-  ]
+  -- so many of the compiled cases are reused
+  pub record AreReusedUpTo (cs fs all : List PlainCaseEvidence) (i : ℕ) : Type 0 where
+    pub long : length all ≡ i
+    pub each : (k : ℕ) (c f d : PlainCaseEvidence) → slice_get cs k ≡ Some c → slice_get fs k ≡ Some f → slice_get all k ≡ Some d → IsReusedCase old new olds k c f d
+
+  module _ (cs fs all : List PlainCaseEvidence) (i : ℕ) (are : AreReusedUpTo cs fs all i) where
+    push_each : (c f x : PlainCaseEvidence) → slice_get cs i ≡ Some c → slice_get fs i ≡ Some f → IsReusedCase old new olds i c f x
+        → (k : ℕ) (a b d : PlainCaseEvidence) → slice_get cs k ≡ Some a → slice_get fs k ≡ Some b → slice_get (all ++ x ∷ []) k ≡ Some d → IsReusedCase old new olds k a b d
+    push_each c f x at also is k a b d here there said = elim (cases_lt k i) [
+      | inl before ↦ are.each k a b d here there (from_front all (x ∷ []) k d said (omega (arith, before, are.long)))
+      | inr after ↦
+          let end : length (all ++ x ∷ []) ≡ length all + 1 = length-append all (x ∷ []) in
+          let last : k ≡ i = omega (arith, after, slice_get_within (all ++ x ∷ []) k d said, end, are.long) in
+          let same : x ≡ d = same_item (all ++ x ∷ []) (length all) k x d (slice_get-there all x []) said (are.long ∙ sym last) in
+          let P : PlainCaseEvidence → Type 0 = λ y. IsReusedCase old new olds k y f x in
+          let Q : PlainCaseEvidence → Type 0 = λ y. IsReusedCase old new olds k a y x in
+          let R : PlainCaseEvidence → Type 0 = λ y. IsReusedCase old new olds k a b y in
+          subst R same (subst Q (same_item fs i k f b also there (sym last)) (subst P (same_item cs i k c a at here (sym last)) (subst (λ j. IsReusedCase old new olds j c f x) (sym last) is)))
+    ]
+
+    pub one_more : (next : List PlainCaseEvidence) (c f x : PlainCaseEvidence) → slice_get cs i ≡ Some c → slice_get fs i ≡ Some f → IsReusedCase old new olds i c f x
+        → next ≡ all ++ x ∷ [] → AreReusedUpTo cs fs next (i + 1)
+    one_more next c f x at also is same = record {
+      long = ap length same ∙ length-append all (x ∷ []) ∙ ap (λ n. n + 1) are.long;
+      each = λ k a b d here there said. push_each c f x at also is k a b d here there (subst (λ xs. slice_get xs k ≡ Some d) same said);
+    }
+
+    pub all_reused : i ≡ length cs → AreReused old new olds cs fs all
+    all_reused end = record { count = are.long ∙ end; each = are.each }
 
 -- the classes of renewed cases are those of the compiled ones
 pub same_classes : (policy : PlainPolicy) (cs ds : List PlainCaseEvidence) → map (λ (d : PlainCaseEvidence). d.case) ds ≡ map (λ (c : PlainCaseEvidence). c.case) cs

@@ -1,0 +1,12 @@
+use Rattle.std.proofs.Common.{◌∙◌, ap, sym}
+use Rattle.policy_base.specs.Policies.{policy_of}
+use Rattle.stage_classes.specs.Cells.{cells}
+use Rattle.evidence_reuse.proofs.Ends.{may_not}
+use Rattle.evidence_reuse.proofs.Tags.{are_tags}
+use Rattle.evidence_reuse.proofs.reuse.made_config.Goals as goal
+
+pub config_of-requires-clause-differ : goal.config_of-requires-clause-differ
+config_of-requires-clause-differ c = are_tags c.args.net.now c.args.cases.now c.requires.tags
+
+pub verdict_on-requires : goal.verdict_on-requires
+verdict_on-requires c = c.requires.cells ∙ ap (cells c.args.old.now.classes) (sym c.in_ok-config.ensures.classes)
