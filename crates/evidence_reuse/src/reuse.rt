@@ -34,7 +34,11 @@ pub struct Reuse {
 }
 
 // A case with the numbers and the tags of another one, which has the same graph.
-fn marked(alloc: Global, case: &CaseEvidence, source: &CaseEvidence) -> Result<CaseEvidence, NoMemory>
+fn marked(
+    alloc: Global,
+    case: &CaseEvidence,
+    source: &CaseEvidence,
+) -> Result<CaseEvidence, NoMemory>
     requires { source.now.graph ≡ case.now.graph }
     ensures { IfOk result (λ d. d ≡ with_marks case.now source.now) }
 {
@@ -166,7 +170,12 @@ pub fn reused(
         cells: cells.as_slice(),
         cases: evidence.cases.as_slice(),
     };
-    let cases = reused_cases(alloc, &before, compiled.cases.as_slice(), renewed.cases.as_slice())?;
+    let cases = reused_cases(
+        alloc,
+        &before,
+        compiled.cases.as_slice(),
+        renewed.cases.as_slice(),
+    )?;
     let config = judged_config(alloc, net, policy, cells.as_slice(), old, cases.as_slice())?;
     Ok(Reuse {
         config,

@@ -58,17 +58,18 @@ module _ (net : PlainNet) (p : PlainPrefix) (old new : Part) (lawful : IsConfig 
         over.1 q.1 k.1 (class_pref net old.config p c.first lawful one r u path t q taken) (class_pref net new.config p c.second lawful' two r v way s k taken');
   })
 
+-- the cells of their classes
+abbrev between : Part → Part → List Cell
+between old new = cells old.config.classes new.config.classes
+
 pub prefixes_stay_or_go_over : PrefixesStayOrGoOver
 prefixes_stay_or_go_over net p old new lawful lawful' free prefix =
     let may = cells_serve old.config new.config lawful lawful' free in
-    by (in_cell_of between old.config new.config p (cell_of between p) (class_of old.config p) (class_of new.config p) refl refl refl (may.pairs p prefix)) may.alike
+    by may.alike (in_cell_of (between old new) old.config new.config p (cell_of (between old new) p) (class_of old.config p) (class_of new.config p) refl refl refl (may.pairs p prefix))
   where
-    abbrev between : List Cell
-    between = cells old.config.classes new.config.classes
-
-    by : InCell between old.config new.config p → AreAlike old.config.routers new.config.routers → SayAlike net p old.config new.config ⊎ TakesOver net p old new
-    by (in_none none no_old no_new) alike = inl (none_alike net old new p no_old no_new)
-    by (in_one c at one two) alike =
-        let place = find_parts (λ (d : Cell). some_contains d.patterns p) between c at in
+    by : AreAlike old.config.routers new.config.routers → InCell (between old new) old.config new.config p → SayAlike net p old.config new.config ⊎ TakesOver net p old new
+    by alike (in_none none no_old no_new) = inl (none_alike net old new p no_old no_new)
+    by alike (in_one c at one two) =
+        let place = find_parts (λ (d : Cell). some_contains d.patterns p) (between old new) c at in
         goes net p old new lawful lawful' c one two alike
-        (AllByRecursion_at (StayOrGoOver old.config new.config) between place.0 c (free_pairs_stay_or_go_over old.config new.config free) place.1)
+        (AllByRecursion_at (StayOrGoOver old.config new.config) (between old new) place.0 c (free_pairs_stay_or_go_over old.config new.config free) place.1)
