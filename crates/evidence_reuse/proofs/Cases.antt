@@ -14,7 +14,7 @@ use Rattle.evidence_renewal.specs.Renewed.{AreRenewedCases, IsRenewedCase, raise
 use Rattle.evidence_renewal.proofs.Cases.{renewed_forth, same_cases}
 use Rattle.evidence_reuse.specs.Reused.{AreForEach, AreReused, IsReusedCase, classes_of, with_marks}
 use Rattle.evidence_reuse.specs.Staying.{Stays, rise}
-use Rattle.evidence_reuse.proofs.Alike.{are_raised-is}
+use Rattle.evidence_reuse.proofs.Rising.{are_raised-is}
 
 -- A case with the graph of a compiled one, and its numbers, each raised by as much.
 pub record IsAlike (c d : PlainCaseEvidence) : Type 0 where

@@ -1,5 +1,5 @@
 use Rattle.std.proofs.Common.{arith}
-use Rattle.evidence_reuse.proofs.Alike.{raised_apart}
+use Rattle.evidence_reuse.proofs.Rising.{raised_apart}
 use Rattle.evidence_reuse.proofs.alike.are_raised.Goals as goal
 
 pub returns-then-numbers-others : goal.returns-then-numbers-others
