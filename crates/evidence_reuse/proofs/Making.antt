@@ -38,7 +38,7 @@ module _ (net : PlainNet) (policy : PlainPolicy) (old : PlainConfig) (olds ds : 
 module _ (net : PlainNet) (policy : PlainPolicy) (old : PlainConfig) (olds compiled : List PlainCaseEvidence) where
   module _ (made : IsEvidenceOfMade net policy compiled) (renewed : List PlainCaseEvidence) (are : AreRenewed old compiled renewed) where
     -- with the classes of the configuration that is made of what is renewed
-    reused_evidence : (ds : List PlainCaseEvidence) (new : List (List PlainPattern)) → new ≡ classes_of policy renewed → AreReused old.classes new olds compiled renewed ds
+    abbrev reused_evidence : (ds : List PlainCaseEvidence) (new : List (List PlainPattern)) → new ≡ classes_of policy renewed → AreReused old.classes new olds compiled renewed ds
         → IsReusedEvidence net policy old olds ds
     reused_evidence ds new is reused = record {
       compiled = compiled;
@@ -48,7 +48,7 @@ module _ (net : PlainNet) (policy : PlainPolicy) (old : PlainConfig) (olds compi
       reused = subst (λ (ps : List (List PlainPattern)). AreReused old.classes ps olds compiled renewed ds) is reused;
     }
 
-    pub reused_by : (first new : List (List PlainPattern)) (cases cs fs ds : List PlainCaseEvidence) → first ≡ old.classes → new ≡ classes_of policy renewed → cases ≡ olds → cs ≡ compiled
+    abbrev pub reused_by : (first new : List (List PlainPattern)) (cases cs fs ds : List PlainCaseEvidence) → first ≡ old.classes → new ≡ classes_of policy renewed → cases ≡ olds → cs ≡ compiled
         → fs ≡ renewed → AreReused first new cases cs fs ds → IsReusedEvidence net policy old olds ds
     reused_by first new cases cs fs ds first_is new_is cases_are cs_are fs_are reused =
         let A : List (List PlainPattern) → Type 0 = λ ps. AreReused ps new cases cs fs ds in
