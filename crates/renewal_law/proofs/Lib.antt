@@ -1,3 +1,4 @@
+mod Cells
 mod Layered
 mod Premises
 mod Prefs

@@ -7,9 +7,11 @@ use Rattle.policy_base.specs.Governing.{is_origin}
 use Rattle.config_base.specs.Configs.{IsConfig}
 use Rattle.evidence_base.specs.Made.{PlainCaseEvidence}
 use Rattle.evidence_law.specs.Passes.{Passes}
-use Rattle.evidence_renewal.specs.Laws.{IsAbove}
+use Rattle.evidence_renewal.specs.Laws.{IsAbove as AreAllAbove}
+use Rattle.rollout_base.specs.Lines.{AreApart}
 use Rattle.rollout_base.specs.Mixtures.{Part}
 use Rattle.rollout_law.specs.Standing.{AreDisjoint}
+use Rattle.rollout_mixtures.specs.Between.{IsAbove}
 use Rattle.stage_check.specs.Laws.{AreRollouts}
 
 -- A network goes over from one policy with its configuration to another:
@@ -25,11 +27,17 @@ pub record IsChange (net : PlainNet) (old new : Part) : Type 0 where
   -- and with the stages that `between` writes they are a rollout.
   pub stages : AreRollouts old.config new.config
 
--- The new configuration may take over from the old one, as one that `renew` writes: no tag stands in both, and each of its preferences is
--- above each of the old one.
-pub record TakesOver (old new : Part) : Type 0 where
+-- For a prefix the new configuration takes over from the old one: what the one gives the other doesn't read, and each preference that a new
+-- line gives is above each that an old one gives.
+pub record TakesOver (net : PlainNet) (p : PlainPrefix) (old new : Part) : Type 0 where
+  pub apart : AreApart net p old new
+  pub above : IsAbove net p old new
+
+-- Everything of the old configuration is replaced, as where `renew` has no evidence: no tag stands in both, and each new preference is above
+-- each of the old one.
+pub record ReplacesAll (old new : Part) : Type 0 where
   pub apart : AreDisjoint new.config old.config
-  pub above : IsAbove new.config old.config
+  pub above : AreAllAbove new.config old.config
 
 -- Who announces the prefix: peers alone, and all that are its origins by either policy.
 pub record Announce (net : PlainNet) (p : PlainPrefix) (old new : Part) (says : ℕ → Bool) : Type 0 where

@@ -1,8 +1,9 @@
 -- What holds of a change of policy while the network runs.
-use Rattle.std.specs.Prelude.{ℕ, Bool, List, Option}
+use Rattle.std.specs.Prelude.{◌≡◌, ◌⊎◌, ℕ, Bool, List, Option}
 use Rattle.net_base.specs.Network.{PlainNet, IsNet}
 use Rattle.net_base.specs.Prefixes.{PlainPrefix, IsPrefix}
 use Rattle.policy_base.specs.Policies.{IsPolicyOf}
+use Rattle.config_base.specs.Configs.{IsConfig}
 use Rattle.config_base.specs.declared.route.Route.{Route}
 use Rattle.evidence_base.specs.Made.{PlainCaseEvidence}
 use Rattle.evidence_law.specs.Passes.{Passes}
@@ -10,13 +11,15 @@ use Rattle.evidence_renewal.specs.Renewed.{IsRenewal}
 use Rattle.event_base.specs.Steps.{IsQuiet}
 use Rattle.event_law.specs.Scenarios.{IsScenarioOf}
 use Rattle.outcome_base.specs.Outcomes.{Failures}
-use Rattle.rollout_base.specs.Lines.{AreApart}
 use Rattle.rollout_base.specs.Mixtures.{Change, Mixture, Part, Running, after, begins}
-use Rattle.rollout_mixtures.specs.Between.{IsBetween, IsAbove}
+use Rattle.rollout_base.specs.Stages.{SayAlike}
+use Rattle.rollout_mixtures.specs.Between.{IsBetween}
 use Rattle.rollout_mixtures.specs.Laws.{ComesToAnEnd}
 use Rattle.rollout_mixtures.specs.Layered.{AreLayers}
 use Rattle.rollout_rest.specs.Rollouts.{IsSafeRollout}
-use Rattle.renewal_law.specs.Change.{Announce, IsChange, TakesOver}
+use Rattle.stage_check.specs.declared.judging.Verdict.TheVariants.{MayMix}
+use Rattle.stage_check.specs.Verdicts.{verdict}
+use Rattle.renewal_law.specs.Change.{Announce, IsChange, ReplacesAll, TakesOver}
 use Rattle.renewal_law.specs.Phases.{AreIn, IsMarked, Phase, part_at, stage_one, stage_two}
 
 -- how a network stands that began so, after a list of events and loads
@@ -39,30 +42,33 @@ ChangesLeadBack =
 
 -- ---- in between
 
--- The evidence of a renewed configuration passes, and it may take over from the old one.
-abbrev pub RenewalsTakeOver : Type 0
-RenewalsTakeOver =
+-- Between two configurations that `between` lets be mixed, each prefix stays, as both do the same with it; or the new one takes over for it.
+abbrev pub PrefixesStayOrGoOver : Type 0
+PrefixesStayOrGoOver =
+    (net : PlainNet) (p : PlainPrefix) (old new : Part) → IsConfig old.config → IsConfig new.config → verdict old.config new.config ≡ MayMix → IsPrefix p
+    → SayAlike net p old.config new.config ⊎ TakesOver net p old new
+
+-- Where everything is replaced, it takes over for each.
+abbrev pub ReplacementsTakeOver : Type 0
+ReplacementsTakeOver = (net : PlainNet) (p : PlainPrefix) (old new : Part) → IsChange net old new → ReplacesAll old new → TakesOver net p old new
+
+-- The evidence of a renewed configuration passes, and it replaces everything.
+abbrev pub RenewalsReplaceAll : Type 0
+RenewalsReplaceAll =
     (net : PlainNet) (old new : Part) (ds : List PlainCaseEvidence) → IsNet net → IsPolicyOf net new.policy
-    → IsRenewal net new.policy old.config new.config ds → Passes net new.policy new.config ds × TakesOver old new
+    → IsRenewal net new.policy old.config new.config ds → Passes net new.policy new.config ds × ReplacesAll old new
 
--- Then of each prefix the tags are apart, and each preference that a new line gives is above each that an old one gives;
-abbrev pub ChangesAreApart : Type 0
-ChangesAreApart = (net : PlainNet) (p : PlainPrefix) (old new : Part) → IsChange net old new → TakesOver old new → AreApart net p old new
-
-abbrev pub ChangesAreAbove : Type 0
-ChangesAreAbove = (net : PlainNet) (p : PlainPrefix) (old new : Part) → TakesOver old new → IsAbove net p old new
-
--- in each phase a router is between old and new, with the starts and the lines of its phase.
+-- Where it takes over, a router in each phase is between old and new, with the starts and the lines of its phase.
 abbrev pub PhasesAreBetween : Type 0
 PhasesAreBetween =
-    (net : PlainNet) (p : PlainPrefix) (old new : Part) → IsChange net old new → TakesOver old new → IsPrefix p
+    (net : PlainNet) (p : PlainPrefix) (old new : Part) → IsChange net old new → TakesOver net p old new → IsPrefix p
     → (r : ℕ) (phase : Phase) → (is : IsBetween net p old new r (part_at old new phase)) × IsMarked phase is
 
 -- So messages come to an end, whatever was run and loaded before, and in whichever phases the routers are now, as long as nobody loads any more.
 abbrev pub ChangesComeToRest : Type 0
 ChangesComeToRest =
     (net : PlainNet) (says : ℕ → Bool) (p : PlainPrefix) (old new : Part) (m : Mixture) (es : List Change) (phase : ℕ → Phase)
-    → IsChange net old new → TakesOver old new → IsPrefix p → Announce net p old new says → AreIn old new phase (stands net says p m es).runs
+    → IsChange net old new → TakesOver net p old new → IsPrefix p → Announce net p old new says → AreIn old new phase (stands net says p m es).runs
     → ComesToAnEnd net says p (stands net says p m es).runs (stands net says p m es).world
 
 -- What routers hold, each in its phase, is of two layers: the settled outcome of the new side, and that of the old side.
@@ -76,6 +82,6 @@ pub record IsLayered (net : PlainNet) (p : PlainPrefix) (old new : Part) (phase 
 abbrev pub RestingChangesAreLayered : Type 0
 RestingChangesAreLayered =
     (net : PlainNet) (says : ℕ → Bool) (p : PlainPrefix) (old new : Part) (m : Mixture) (es : List Change) (phase : ℕ → Phase) (f : Failures)
-    → IsChange net old new → TakesOver old new → IsPrefix p → Announce net p old new says → AreIn old new phase (stands net says p m es).runs
+    → IsChange net old new → TakesOver net p old new → IsPrefix p → Announce net p old new says → AreIn old new phase (stands net says p m es).runs
     → IsScenarioOf net (stands net says p m es).world f → IsQuiet (stands net says p m es).world
     → IsLayered net p old new phase (stands net says p m es).runs f (stands net says p m es).world.route

@@ -2,22 +2,22 @@
 //! the new outcome in the end. There is no code.
 //!
 //! The laws of rollouts are said of lines, prefix by prefix: tags are apart, preferences are above, stages lie between. The commands
-//! promise words on whole texts: no tag stands in both, each preference that stands in the one is above each in the other, the four
-//! are a rollout. Here these give those, so each law of rollouts is one of what the commands write.
+//! promise words on whole texts: nothing is in the way of stages, no tag stands in both, the four are a rollout. Here these give those, so
+//! each law of rollouts is one of what the commands write.
 //!
-//! `IsChange` of `specs/Change` is what `check` and `between` tell of an old and a new configuration, and `TakesOver` what `renew`
-//! tells besides. `specs/Phases` says which of the four configurations a router runs, and what it has then.
+//! `IsChange` of `specs/Change` is what `check` and `between` tell of an old and a new configuration. For each prefix both do the same, or the
+//! new one takes over (`TakesOver`). `specs/Phases` says which of the four configurations a router runs, and what it has then.
 //!
 //! | Law | It says | It needs |
 //! |---|---|---|
 //! | `changes_are_safe` | nothing is ever held or heard that neither policy allows, and the end is the new outcome; and so back | `IsChange` |
-//! | `renewals_take_over` | what `renew` writes passes, and takes over | that it is renewed |
-//! | `changes_meet_premises` | tags are apart, preferences above, and each router is between old and new | and `TakesOver` |
-//! | `changes_come_to_rest` | in between, too, messages come to an end | and who announces |
+//! | `prefixes_stay_or_go_over` | each prefix stays, as both do the same with it, or the new one takes over for it | that nothing is in the way of stages |
+//! | `renewals_replace_all` | what `renew` writes without evidence passes, and takes over for each prefix | that it is renewed |
+//! | `changes_come_to_rest` | in between, too, messages come to an end | `IsChange`, `TakesOver` for the prefix, and who announces |
 //! | `resting_changes_are_layered` | what is held then is two layers, each the outcome of its own side | the same |
 //!
-//! Without `TakesOver` a change is safe all the same: a class with the same lines in both may keep its tags and preferences. Why the
-//! premises follow: a preference that a line gives stands in the text (`proofs/Prefs`), and so does a tag (`rollout_law`).
+//! A prefix that stays is all the time as it was, in whichever phases routers are. Why preferences and tags are apart: one that a line gives stands
+//! in the text (`proofs/Prefs`, `rollout_law`), and among the lines of its class (`proofs/Cells`).
 //!
 //! Compiling doesn't need it.
 //!
@@ -25,13 +25,13 @@
 #![tactic(auto)]
 
 ghost use Rattle.renewal_law.specs.Laws.{
-  ChangesAreAbove,
-  ChangesAreApart,
   ChangesAreSafe,
   ChangesComeToRest,
   ChangesLeadBack,
   PhasesAreBetween,
-  RenewalsTakeOver,
+  PrefixesStayOrGoOver,
+  RenewalsReplaceAll,
+  ReplacementsTakeOver,
   RestingChangesAreLayered,
 };
 
@@ -41,16 +41,18 @@ pub fn changes_are_safe()
     ensures back { ChangesLeadBack }
 {}
 
-/// The evidence of a renewed configuration passes. No tag stands in it and in the old one, and each of its preferences is above each old one.
-pub fn renewals_take_over()
-    ensures { RenewalsTakeOver }
+/// Where nothing is in the way of stages, each prefix stays, or the new configuration takes over for it. Then each router is between old and new,
+/// with the starts and the lines of its phase.
+pub fn prefixes_stay_or_go_over()
+    ensures prefixes { PrefixesStayOrGoOver }
+    ensures between { PhasesAreBetween }
 {}
 
-/// What the laws of rollouts ask of lines follows from what is known of a change whose new configuration takes over.
-pub fn changes_meet_premises()
-    ensures apart { ChangesAreApart }
-    ensures above { ChangesAreAbove }
-    ensures between { PhasesAreBetween }
+/// The evidence of a configuration that is renewed without evidence passes. No tag stands in it and in the old one, and each of its preferences is
+/// above each old one. So it takes over for each prefix.
+pub fn renewals_replace_all()
+    ensures all { RenewalsReplaceAll }
+    ensures prefixes { ReplacementsTakeOver }
 {}
 
 /// From the moment on when nobody loads any more, so many rounds of deliveries end all messages, whichever of the four configurations each

@@ -1,14 +1,17 @@
 -- Where nothing is in the way the stages make a rollout.
 use Rattle.std.proofs.Common.{◌≡◌, ℕ, ◌+◌, ◌<◌, ◌≤◌, ◌^◌, Bool, true, false, List, [], ◌∷◌, ◌++◌, length, min, Option, Some, None, inl, inr, refl, sym, ap, ◌∙◌, subst, arith}
-use Rattle.std.specs.Prelude.{nat_lt, sum_by}
+use Rattle.std.specs.Prelude.{nat_le, nat_lt, sum_by}
 use Rattle.std.specs.List.{AllByRecursion, flat_map, fold}
-use Rattle.std.proofs.lemmas.Bool.{ltb-false}
+use Rattle.std.proofs.lemmas.Bool.{leb-false, ltb-false}
 use Rattle.std.proofs.lemmas.List.Sums.{sum_by-cons}
+use Rattle.list_law.specs.Members.{IsIn}
+use Rattle.list_law.proofs.Each.{AllByRecursion-from_list_any, AllByRecursion_at}
+use Rattle.list_law.proofs.Members.{IsIn-filter, IsIn-nil}
 use Rattle.net_base.specs.declared.numbers.Tag.{Tag}
 use Rattle.config_base.specs.Configs.{PlainConfig, IsConfig}
 use Rattle.class_lines.specs.declared.class_line.ClassLine.{ClassLine}
 use Rattle.class_lines.specs.ClassLines.{all_lines, same_lines}
-use Rattle.class_lines.specs.Marks.{least_of_tags, lesser_tag, shared_tags}
+use Rattle.class_lines.specs.Marks.{is_low, least_of_prefs, least_of_tags, lesser_pref, lesser_tag, low_prefs, prefs_in, shared_tags}
 use Rattle.class_lines.specs.Tables.{by_class}
 use Rattle.stage_blocks.specs.Merging.{is_below}
 use Rattle.stage_classes.specs.declared.cell.Cell.{Cell}
@@ -22,10 +25,10 @@ use Rattle.stage_law.proofs.Mixed.{stages_make_a_rollout}
 use Rattle.stage_check.specs.declared.judging.Verdict.{Verdict}
 use Rattle.stage_check.specs.declared.judging.Verdict.TheVariants.{MayMix, Unlike, TooManyLines, SharedTag, LowPref}
 use Rattle.stage_check.specs.declared.judging.TheConstants.{MAX_LINES}
-use Rattle.stage_check.specs.Laws.{CellsServe, StagesAreRollouts, run_by}
+use Rattle.stage_check.specs.Laws.{AreOver, CellsServe, FreePairsStayOrGoOver, StagesAreRollouts, StayOrGoOver, run_by}
 use Rattle.stage_check.specs.Stages.{stage_of}
 use Rattle.stage_check.specs.Unlike.{first_unlike}
-use Rattle.stage_check.specs.Verdicts.{lines_of_cell, of_count, of_tag, of_unlike, stays, tag_or_pref, tags_of_cell, top, verdict}
+use Rattle.stage_check.specs.Verdicts.{lines_of_cell, of_count, of_pref, of_tag, of_unlike, prefs_of_cell, stays, tag_or_pref, tags_of_cell, top, verdict}
 use Rattle.stage_check.proofs.Alike.{alike_from}
 use Rattle.stage_check.proofs.NoTags.{no_tag_in_common}
 use Rattle.stage_check.proofs.SameBlocks.{say_same}
@@ -47,6 +50,14 @@ module _ (old new : ℕ → List ClassLine) where
   tag_none : (cs : List Cell) (o : Option Tag) → of_tag old new cs o ≡ MayMix → o ≡ None
   tag_none cs None h = refl
   tag_none cs (Some t) h = absurd (let clash : SharedTag t ≡ MayMix = h in cc)
+
+  pref_none : (o : Option ℕ) → of_pref o ≡ MayMix → o ≡ None
+  pref_none None h = refl
+  pref_none (Some n) h = absurd (let clash : LowPref n ≡ MayMix = h in cc)
+
+  no_pref : (cs : List Cell) (o : Option Tag) → of_tag old new cs o ≡ MayMix → least_of_prefs (flat_map (prefs_of_cell old new) cs) ≡ None
+  no_pref cs None h = pref_none (least_of_prefs (flat_map (prefs_of_cell old new) cs)) h
+  no_pref cs (Some t) h = absurd (let clash : SharedTag t ≡ MayMix = h in cc)
 
   -- ---- each cell is counted
 
@@ -80,6 +91,31 @@ no_tags : (ts : List Tag) → least_of_tags ts ≡ None → ts ≡ []
 no_tags [] h = refl
 no_tags (t ∷ ts) h = absurd (let some = some_stays t ts in let clash : Some some.0 ≡ None = sym some.1 ∙ h in cc)
 
+-- ---- no preference
+
+some_is_left : (m : ℕ) (ns : List ℕ) → (k : ℕ) × (fold lesser_pref (Some m) ns ≡ Some k)
+some_is_left m [] = (m, refl)
+some_is_left m (n ∷ ns) = by (nat_lt n m) refl (some_is_left n ns) (some_is_left m ns)
+  where
+    by : (b : Bool) → nat_lt n m ≡ b → ((k : ℕ) × (fold lesser_pref (Some n) ns ≡ Some k)) → ((k : ℕ) × (fold lesser_pref (Some m) ns ≡ Some k))
+        → (k : ℕ) × (fold lesser_pref (Some m) (n ∷ ns) ≡ Some k)
+    by true e lesser other = (lesser.0, rw e lesser.1)
+    by false e lesser other = (other.0, rw e other.1)
+
+no_prefs : (ns : List ℕ) → least_of_prefs ns ≡ None → ns ≡ []
+no_prefs [] h = refl
+no_prefs (n ∷ ns) h = absurd (let some = some_is_left n ns in let clash : Some some.0 ≡ None = sym some.1 ∙ h in cc)
+
+-- where none of the second lines is low, each is above
+above : (old new : List ClassLine) → low_prefs old new ≡ [] → (i j : ℕ) → IsIn (prefs_in old) i → IsIn (prefs_in new) j → i < j
+above old new none i j here there = by (is_low (prefs_in old) j) refl
+  where
+    by : (b : Bool) → is_low (prefs_in old) j ≡ b → i < j
+    by true e = absurd (IsIn-nil j (subst (λ ns. IsIn ns j) none (IsIn-filter (is_low (prefs_in old)) (prefs_in new) j there e)))
+    by false e =
+        let all = AllByRecursion-from_list_any (nat_le j) (prefs_in old) e in
+        leb-false j i (AllByRecursion_at (λ n. nat_le j n ≡ false) (prefs_in old) here.0 i all here.1)
+
 module _ {A B : Type 0} (f : A → List B) where
   nothing_of : (xs : List A) → flat_map f xs ≡ [] → AllByRecursion (λ x. f x ≡ []) xs
   nothing_of [] h = tt
@@ -103,6 +139,19 @@ module _ (old new : PlainConfig) (alike : AreAlike old.routers new.routers) wher
   cells_mix [] all = tt
   cells_mix (c ∷ cs) all = (cell_mixes c all.0, cells_mix cs all.1)
 
+  cell_goes_over : (c : Cell) → tags_of_cell (by_class old) (by_class new) c ≡ [] → prefs_of_cell (by_class old) (by_class new) c ≡ [] → StayOrGoOver old new c
+  cell_goes_over c none least = by (stays (by_class old) (by_class new) c) refl none least
+    where
+      by : (b : Bool) → stays (by_class old) (by_class new) c ≡ b → tags_of_cell (by_class old) (by_class new) c ≡ [] → prefs_of_cell (by_class old) (by_class new) c ≡ []
+          → StayOrGoOver old new c
+      by true e h l = inl (say_same c.first c.second old.routers new.routers alike e)
+      by false e h l = inr (no_tag_in_common c.first c.second old new (rw e at h), above (by_class old c.first) (by_class new c.second) (rw e at l))
+
+  cells_go_over : (cs : List Cell) → AllByRecursion (λ c. tags_of_cell (by_class old) (by_class new) c ≡ []) cs
+      → AllByRecursion (λ c. prefs_of_cell (by_class old) (by_class new) c ≡ []) cs → AllByRecursion (StayOrGoOver old new) cs
+  cells_go_over [] all low = tt
+  cells_go_over (c ∷ cs) all low = (cell_goes_over c all.0 low.0, cells_go_over cs all.1 low.1)
+
 module _ (old new : PlainConfig) (free : verdict old new ≡ MayMix) where
   abbrev between : List Cell
   between = cells old.classes new.classes
@@ -117,12 +166,21 @@ module _ (old new : PlainConfig) (free : verdict old new ≡ MayMix) where
   within : (min (sum_by (lines_of_cell (by_class old) (by_class new)) between) top ≤ MAX_LINES) × (tag_or_pref (by_class old) (by_class new) between ≡ MayMix)
   within = few (by_class old) (by_class new) between (min (sum_by (lines_of_cell (by_class old) (by_class new)) between) top) same.1
 
-  mix : AllByRecursion (MayMixIn old new) between
-  mix =
-      cells_mix old new alike between
-      (nothing_of (tags_of_cell (by_class old) (by_class new)) between
+  apart : AllByRecursion (λ c. tags_of_cell (by_class old) (by_class new) c ≡ []) between
+  apart =
+      nothing_of (tags_of_cell (by_class old) (by_class new)) between
       (no_tags (flat_map (tags_of_cell (by_class old) (by_class new)) between)
-      (tag_none (by_class old) (by_class new) between (least_of_tags (flat_map (tags_of_cell (by_class old) (by_class new)) between)) within.1)))
+      (tag_none (by_class old) (by_class new) between (least_of_tags (flat_map (tags_of_cell (by_class old) (by_class new)) between)) within.1))
+
+  mix : AllByRecursion (MayMixIn old new) between
+  mix = cells_mix old new alike between apart
+
+  go_over : AllByRecursion (StayOrGoOver old new) between
+  go_over =
+      cells_go_over old new alike between apart
+      (nothing_of (prefs_of_cell (by_class old) (by_class new)) between
+      (no_prefs (flat_map (prefs_of_cell (by_class old) (by_class new)) between)
+      (no_pref (by_class old) (by_class new) between (least_of_tags (flat_map (tags_of_cell (by_class old) (by_class new)) between)) within.1)))
 
   short : length between < 2 ^ 32
   short =
@@ -141,6 +199,9 @@ module _ (old new : PlainConfig) (free : verdict old new ≡ MayMix) where
 
 pub cells_serve : CellsServe
 cells_serve old new lawful lawful' free = serve old new free lawful lawful'
+
+pub free_pairs_stay_or_go_over : FreePairsStayOrGoOver
+free_pairs_stay_or_go_over old new free = go_over old new free
 
 pub stages_are_rollouts : StagesAreRollouts
 unfolding stage_of

@@ -21,14 +21,14 @@ use Rattle.stage_law.specs.Mixing.{HaveNoTagInCommon, StandsAt, StandsBy, Stands
 
 -- ---- lines that are somewhere
 
-sessions_in : (r k : ℕ) (bs : List Session) (b : Session) → IsIn bs b → (j : ℕ) × ((l : ClassLine) → IsIn (session_lines r j b) l → IsIn (sessions_from r k bs) l)
+pub sessions_in : (r k : ℕ) (bs : List Session) (b : Session) → IsIn bs b → (j : ℕ) × ((l : ClassLine) → IsIn (session_lines r j b) l → IsIn (sessions_from r k bs) l)
 sessions_in r k [] b at = absurd (IsIn-nil b at)
 sessions_in r k (x ∷ xs) b at = elim (IsIn-cons_cases x xs b at) [
   | inl same ↦ (k, λ l is. IsIn-append_left (session_lines r k x) (sessions_from r (k + 1) xs) l (subst (λ y. IsIn (session_lines r k y) l) (sym same) is))
   | inr later ↦ (let rest = sessions_in r (k + 1) xs b later in (rest.0, λ l is. IsIn-append_right (session_lines r k x) (sessions_from r (k + 1) xs) l (rest.1 l is)))
 ]
 
-routers_in : (r : ℕ) (cs : List RouterConfig) (c : RouterConfig) → IsIn cs c → (j : ℕ) × ((l : ClassLine) → IsIn (router_lines j c) l → IsIn (routers_from r cs) l)
+pub routers_in : (r : ℕ) (cs : List RouterConfig) (c : RouterConfig) → IsIn cs c → (j : ℕ) × ((l : ClassLine) → IsIn (router_lines j c) l → IsIn (routers_from r cs) l)
 routers_in r [] c at = absurd (IsIn-nil c at)
 routers_in r (x ∷ xs) c at = elim (IsIn-cons_cases x xs c at) [
   | inl same ↦ (r, λ l is. IsIn-append_left (router_lines r x) (routers_from (r + 1) xs) l (subst (λ y. IsIn (router_lines r y) l) (sym same) is))

@@ -34,7 +34,7 @@ module _ (net : PlainNet) (config : PlainConfig) (lawful : IsConfig config) (p :
       let f = find_parts (λ (d : RouterConfig). is_named net d.name r) config.routers c a.1 in
       (f.0, f.1)
 
-  session_in : (r z : ℕ) (b : Session) → block_at net config r z ≡ Some b → (c : RouterConfig) × IsIn config.routers c × IsIn c.sessions b
+  pub session_in : (r z : ℕ) (b : Session) → block_at net config r z ≡ Some b → (c : RouterConfig) × IsIn config.routers c × IsIn c.sessions b
   session_in r z b e =
       let c = option_and_then_parts _ (router_at net config r) b e in
       let f = find_parts _ c.0.sessions b c.2 in
@@ -57,16 +57,17 @@ module _ (net : PlainNet) (config : PlainConfig) (lawful : IsConfig config) (p :
               inr (c, router_in r c at, inl (o, (f.0, f.1), class, sym (sym is ∙ own_by net p config lawful r n number (Some c) at ∙ rw e refl)))
 
   -- an import line that takes a route
-  record Taking (r u : ℕ) (tag : Tag) (q : Tag × ℕ) : Type 0 where
-    block : Session
-    found : block_at net config r u ≡ Some block
-    rule : Import
-    at : IsIn block.imports rule
-    class : rule.class ≡ n
-    asks : (is_peer net u || same_tag rule.tag tag) ≡ true
-    sets : rule.set ≡ q.0
+  pub record Taking (r u : ℕ) (tag : Tag) (q : Tag × ℕ) : Type 0 where
+    pub block : Session
+    pub found : block_at net config r u ≡ Some block
+    pub rule : Import
+    pub at : IsIn block.imports rule
+    pub class : rule.class ≡ n
+    pub asks : (is_peer net u || same_tag rule.tag tag) ≡ true
+    pub sets : rule.set ≡ q.0
+    pub prefers : rule.pref ≡ q.1
 
-  taking : (r u : ℕ) (path : List ℕ) (tag : Tag) (q : Tag × ℕ) → takes net config p r u path tag ≡ Some q → Taking r u tag q
+  pub taking : (r u : ℕ) (path : List ℕ) (tag : Tag) (q : Tag × ℕ) → takes net config p r u path tag ≡ Some q → Taking r u tag q
   taking r u path tag q e = by (block_at net config r u) refl
     where
       by : (o : Option Session) → block_at net config r u ≡ o → Taking r u tag q
@@ -85,7 +86,7 @@ module _ (net : PlainNet) (config : PlainConfig) (lawful : IsConfig config) (p :
               let parts = and_parts (i.class == n) (is_peer net u || same_tag i.tag tag) f.2 in
               let same : Some (i.set, i.pref) ≡ Some q = rw e at given_is in
               let is : (i.set, i.pref) ≡ q = cc in
-              record { block = b; found = at; rule = i; at = (f.0, f.1); class = eqb-true i.class n parts.0; asks = parts.1; sets = ap (λ (x : Tag × ℕ). x.0) is }
+              record { block = b; found = at; rule = i; at = (f.0, f.1); class = eqb-true i.class n parts.0; asks = parts.1; sets = ap (λ (x : Tag × ℕ). x.0) is; prefers = ap (λ (x : Tag × ℕ). x.1) is }
 
   pub given_stands : (x : Part) → x.config ≡ config → (r : ℕ) (t : Tag) → GivesTag net p x r t → (t ≡ no_tag) ⊎ StandsIn n config t
   given_stands x same r t (inl own) = own_stands r t (ap (λ c. own_tag net c p r) (sym same) ∙ own.1)

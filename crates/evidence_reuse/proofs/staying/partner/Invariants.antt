@@ -1,0 +1,6 @@
+use Rattle.std.proofs.Common.{◌≡◌, drop}
+use Rattle.evidence_reuse.specs.Staying.{partner}
+use Rattle.evidence_reuse.proofs.staying.partner.Given as goal
+
+abbrev pub invariant-loop-cell : goal.invariant-loop-cell
+invariant-loop-cell l = partner l.count l.cells l.class ≡ partner l.count (drop l.cell-index l.cells) l.class
