@@ -1,9 +1,10 @@
 -- What is said of an old configuration with its evidence and a policy: the text of what may take over, or why there is nothing.
-use Rattle.std.proofs.Common.{◌≡◌, ℕ, List, inl, inr, sym, ap, ◌∙◌, subst}
+use Rattle.std.proofs.Common.{◌≡◌, ◌⊎◌, ℕ, List, inl, inr, sym, ap, ◌∙◌, subst}
 use Rattle.net_base.specs.Network.{PlainNet}
 use Rattle.policy_base.specs.Policies.{PlainPolicy}
 use Rattle.config_base.specs.Configs.{PlainConfig}
 use Rattle.evidence_base.specs.Made.{PlainCaseEvidence}
+use Rattle.compile_jobs.specs.Compiling.{IsRefusing}
 use Rattle.compile_jobs.specs.Written.{WritesPart}
 use Rattle.compile_jobs.specs.declared.written.Part.{Part}
 use Rattle.compile_jobs.proofs.Compiling.{only}
@@ -11,10 +12,11 @@ use Rattle.evidence_reuse.specs.Reused.{IsReuse, IsReusedEvidence}
 use Rattle.evidence_reuse.proofs.One.{never_other, one_reuse}
 use Rattle.refusal_lines.specs.RefusalLines.{refusal_line}
 use Rattle.run_base.specs.declared.outcome.Status.TheVariants.{Refused}
-use Rattle.run_base.specs.Said.{Said, text, line}
+use Rattle.run_base.specs.declared.outcome.Stop.{Stop}
+use Rattle.run_base.specs.Said.{IsGiven, Said, text, line, stop_said}
 use Rattle.run_base.proofs.Jobs.{IsJobSaid, in_text, in_refusal}
-use Rattle.renewal_jobs.specs.Renewing.{PrefsRunOut}
-use Rattle.renewal_jobs.specs.Reusing.{SaysOfPair}
+use Rattle.renewal_jobs.specs.Renewing.{PrefsRunOut, SaysRunOut}
+use Rattle.renewal_jobs.specs.Reusing.{SaysOfPair, SaysOther}
 use Rattle.renewal_jobs.proofs.Renewals.{accepted, never_both, part_text}
 
 module _ (net : PlainNet) (policy : PlainPolicy) (old : PlainConfig) (olds : List PlainCaseEvidence) where
@@ -23,6 +25,14 @@ module _ (net : PlainNet) (policy : PlainPolicy) (old : PlainConfig) (olds : Lis
   never_out ds is out = never_both net policy old is.renewed (record { compiled = is.compiled; made = is.made; renewed = is.are_renewed }) out
 
   module _ (part : Part) where
+    -- a stop is said for its reason
+    pub stop_given : (s : Stop) → IsRefusing net policy s ⊎ SaysRunOut net policy old (stop_said s) ⊎ SaysOther net policy old olds (stop_said s)
+        → IsGiven (SaysOfPair part net policy old olds) (stop_said s)
+    stop_given s (inl (inl none)) = inl none
+    stop_given s (inl (inr refused)) = inr (inr (inr (inr refused)))
+    stop_given s (inr (inl out)) = inr (inr (inl out))
+    stop_given s (inr (inr other)) = inr (inr (inr (inl other)))
+
     -- ---- the form of what is said
 
     pub pair_form : (Refuses Checks : Type 0) → Refuses → (what : Said) → SaysOfPair part net policy old olds what → IsJobSaid Refuses Checks what
