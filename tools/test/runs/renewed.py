@@ -104,7 +104,7 @@ end
     ("what stays doesn't come above what it was", ["renewal"], [TWO_ROUTERS, ANY_PATH, RENEWED_CONFIG, RENEWED_EVIDENCE], DONE, RENEWED_EVIDENCE),
     ("a class with one more prefix doesn't stay", ["renew"],
      [TWO_ROUTERS, "originate 10.0.1.0/24 at A; originate 10.0.2.0/24 at A; true => any;", TWO_ROUTERS_CONFIG, TWO_ROUTERS_EVIDENCE], DONE,
-     RENEWED_CONFIG.replace("class 1 10.0.1.0/24", "class 1 10.0.1.0/24 10.0.2.0/24")
+     RENEWED_CONFIG.replace("class 1 10.0.1.0/24", "class 1 10.0.1.0/24, 10.0.2.0/24")
      .replace("originate 1 10.0.1.0/24 tag 64512:0:2\n", "originate 1 10.0.1.0/24 tag 64512:0:2\noriginate 1 10.0.2.0/24 tag 64512:0:2\n")),
     ("a class beside it does", ["renew"],
      [TWO_ROUTERS, "originate 10.0.1.0/24 at A; originate 10.0.2.0/24 at B; true => any;", TWO_ROUTERS_CONFIG, TWO_ROUTERS_EVIDENCE], DONE, """\
