@@ -1,11 +1,14 @@
 """A change of policy, as a running network takes it: the configurations of its stages, who has something to load in each, and what a
 router's block gains and loses there.
 
-The configurations are the program's: what `compile` writes of the policy that runs, what `renew` writes of the new one, and what
-`between` writes of these two. Here their texts are compared, block by block and line by line.
+The configurations are the program's: what `compile` writes of the policy that runs, what `renew` writes of the new one with the evidence of
+the old, and what `between` writes of these two. Here their texts are compared, block by block and line by line. Who has something to load is
+told by what `maps` writes of them: a class may stay that has another number.
 """
 from __future__ import annotations
 
+import re
+from collections import defaultdict
 from collections.abc import Callable, Iterator
 from dataclasses import dataclass
 from itertools import pairwise
@@ -31,8 +34,8 @@ class Unwritten(Exception):
     texts: Texts
 
 
-def configurations(ask: Ask, topology: bytes, before: bytes, after: bytes) -> dict[Stage, str]:
-    """The configuration of each stage, from one policy to another."""
+def configurations(ask: Ask, topology: bytes, before: bytes, after: bytes) -> tuple[dict[Stage, str], dict[Stage, str]]:
+    """The configuration of each stage, from one policy to another, and its maps."""
 
     def written(command: str, texts: Texts, *more: str) -> bytes:
         answer = ask(command, texts, *more)
@@ -40,10 +43,13 @@ def configurations(ask: Ask, topology: bytes, before: bytes, after: bytes) -> di
             raise Unwritten(command, answer, texts)
         return answer.output
 
-    old = written("compile", {"topology.json": topology, "policy.propane": before})
-    new = written("renew", {"topology.json": topology, "policy.propane": after, "config.txt": old})
+    running = {"topology.json": topology, "policy.propane": before}
+    old, evidence = written("compile", running), written("evidence", running)
+    new = written("renew", {"topology.json": topology, "policy.propane": after, "config.txt": old, "evidence.json": evidence})
     between = {stage: written("between", {"before.txt": old, "after.txt": new}, number) for stage, number in NUMBERS.items()}
-    return {stage: text.decode() for stage, text in ({Stage.OLD: old} | between | {Stage.NEW: new}).items()}
+    texts = {Stage.OLD: old} | between | {Stage.NEW: new}
+    maps = {stage: written("maps", {"config.txt": text}) for stage, text in texts.items()}
+    return {stage: text.decode() for stage, text in texts.items()}, {stage: text.decode() for stage, text in maps.items()}
 
 
 def blocks(configuration: str) -> dict[str, str]:
@@ -52,14 +58,24 @@ def blocks(configuration: str) -> dict[str, str]:
     return {part.split(" ", 2)[1]: f"{part}\nend" for part in parts}
 
 
-def steps(texts: dict[Stage, str]) -> list[Told]:
-    """Each step from a stage to the next: which routers have something to load, as their blocks differ, and whether nothing moves."""
-    held = {stage: blocks(text) for stage, text in texts.items()}
+def meanings(maps: str) -> dict[str, str]:
+    """What the maps of each router do, with its lists in place of their numbers."""
+    lists = defaultdict[str, list[str]](list)
+    for line in maps.splitlines():
+        if line.startswith("list "):
+            _, number, row = line.split(" ", 2)
+            lists[number].append(row)
+    return {name: re.sub(r" list (\d+)", lambda found: f" list {lists[found[1]]}", block) for name, block in blocks(maps).items()}
+
+
+def steps(maps: dict[Stage, str]) -> list[Told]:
+    """Each step from a stage to the next: which routers have something to load, as their maps do another thing, and whether nothing moves."""
+    held = {stage: meanings(text) for stage, text in maps.items()}
 
     def loading(before: Stage, after: Stage) -> list[str]:
         return [name for name, block in held[after].items() if held[before].get(name) != block]
 
-    return [{"to": after.value, "still": is_still(before, after), "load": loading(before, after)} for before, after in pairwise(texts)]
+    return [{"to": after.value, "still": is_still(before, after), "load": loading(before, after)} for before, after in pairwise(maps)]
 
 
 def placed(block: str) -> Iterator[Line]:

@@ -114,15 +114,15 @@ class Page:
         """The steps from one policy to another, and the block of a router in each stage where one is named."""
         before, policy, lane = text_in(value, "before"), text_in(value, "policy"), self.lane(value, "change")
         try:
-            texts = self.stages(before, policy, lane)
+            texts, maps = self.stages(before, policy, lane)
         except changing.Unwritten as fault:
             return self.unchanged(fault, lane)
         router = value.get("router")
-        return {"status": DONE, "steps": changing.steps(texts)} | (
+        return {"status": DONE, "steps": changing.steps(maps)} | (
             {"blocks": changing.block_lines(texts, router)} if isinstance(router, str) else {})
 
-    def stages(self, before: str, policy: str, lane: str) -> dict[Stage, str]:
-        """The configurations of a change. All of it is one question, which a newer one in its lane ends."""
+    def stages(self, before: str, policy: str, lane: str) -> tuple[dict[Stage, str], dict[Stage, str]]:
+        """The configurations of a change, and their maps. All of it is one question, which a newer one in its lane ends."""
         with self.runner.turn(lane) as turn:
             return changing.configurations(partial(self.runner.of_texts, turn), self.runner.topology, before.encode(), policy.encode())
 

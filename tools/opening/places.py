@@ -17,7 +17,7 @@ from .runner import COMMANDS, Answer, Runner
 Place = dict[str, int]
 Told = dict[str, object]
 KINDS: dict[str, list[str]] = {"": [], "scenario.json": ["SCENARIO"], "events.json": ["EVENTS"]}  # of a command's third text
-CHANGING = {"renew": ["TOPO", "POLICY", "CONFIG"], "between": ["BEFORE", "AFTER"]}  # the texts of commands that aren't asked alone
+CHANGING = {"renew": ["TOPO", "POLICY", "CONFIG", "EVIDENCE"], "between": ["BEFORE", "AFTER"], "maps": ["CONFIG"]}  # the texts of commands that aren't asked alone
 FINDING = re.compile(r"(?:unused group (?P<group>\S+)|(?:covered|idle|unreached) statement (?P<statement>[0-9]+)(?: alternative [0-9]+)?)")
 
 

@@ -65,8 +65,8 @@ def write_plan(program: Program, topology: str, policies: tuple[str, str], confi
         put(stage, "policy", read_text(policy))
     put(Stage.OLD, "config", read_text(config))
     put(Stage.OLD, "evidence", read_text(evidence))
-    put(Stage.NEW, "config", program("renew", topology, new, config)[1])
-    put(Stage.NEW, "evidence", program("renewal", topology, new, config)[1])
+    put(Stage.NEW, "config", program("renew", topology, new, config, evidence)[1])
+    put(Stage.NEW, "evidence", program("renewal", topology, new, config, evidence)[1])
     for stage, number in ((Stage.ONE, "1"), (Stage.TWO, "2")):
         put(stage, "config", program("between", config, file(Stage.NEW, "config"), number)[1])
     for stage in Stage:

@@ -51,7 +51,7 @@ def usage(program: str) -> dict[str, list[str]]:
 
 
 def is_free(kind: str) -> bool:
-    """Whether a word may be left out, as in `help [COMMAND]`."""
+    """Whether a word may be left out, as in `help [COMMAND]` and `renew TOPO POLICY CONFIG [EVIDENCE]`."""
     return kind.startswith("[")
 
 
@@ -195,7 +195,7 @@ def told(program: str, status: int, output: bytes, words: Sequence[str]) -> Hint
         return said("Memory was refused, and nothing was written.")
     if status not in (REFUSED, BAD_INPUT, CHECK_FAILS):
         return NOTHING
-    command, kinds = words[0], usage(program).get(words[0], [])
+    command, kinds = words[0], [kind.strip("[]") for kind in usage(program).get(words[0], [])]
     if status == CHECK_FAILS:
         return says_no(command)
     found = {place: text_of(word) for place, (kind, word) in enumerate(zip(kinds, words[1:])) if kind in CALLED}

@@ -12,7 +12,7 @@
 //! classes that share prefixes, both have the same lines, or the tags are apart and the preferences above. If that isn't so, the evidence is
 //! another configuration's, and this is told.
 //!
-//! No command needs it yet.
+//! `renew` and `renewal` alone need it.
 //!
 //! It knows nothing of texts, or of how stages are made.
 #![tactic(auto)]

@@ -11,11 +11,15 @@ use Rattle.text_law.proofs.Policies.{read_policies_are_meant}
 use Rattle.policy_law.proofs.Texts.{policies_are_meant, policy_is_spelled}
 use Rattle.input_texts.specs.Asked.{SpellAlso, SpellFor}
 use Rattle.input_texts.proofs.Asking.{net_of_spelled, policy_of_spelled}
+use Rattle.config_base.specs.Configs.{PlainConfig}
+use Rattle.evidence_base.specs.Made.{PlainCaseEvidence}
+use Rattle.compile_jobs.specs.declared.written.Part.{Part}
 use Rattle.judging_jobs.specs.Asked.{Audited, SpellAudit}
+use Rattle.renewal_jobs.proofs.ReuseLaws.{SpellPair}
 use Rattle.propane_run.specs.declared.command.Command.{Command}
 use Rattle.propane_run.specs.declared.command.Command.TheVariants.{Compile, Evidence, Check, Explain, Impact, RouteMap, CheckMap, Lint, Audit, Migrate}
-use Rattle.propane_run.specs.declared.command.Command.TheVariants.{Sample, Help, Version, Promises, Maps, Between, Renew, Under, After}
-use Rattle.propane_run.specs.Asked.{AsksAlso, AsksFor, IsFor}
+use Rattle.propane_run.specs.declared.command.Command.TheVariants.{Sample, Help, Version, Promises, Maps, Between, Renew, Reuse, Under, After}
+use Rattle.propane_run.specs.Asked.{AsksAlso, AsksFor, AsksOfReuse, IsFor}
 use Rattle.propane_run.specs.Auditing.{AsksAudit}
 use Rattle.propane_run.specs.Headline.{NamesTexts}
 use Rattle.propane_run.specs.Words.{names_read, words_are}
@@ -57,6 +61,7 @@ module _ (holds : Holds) (words : List (List ℕ)) where
   asked_by Maps net policy is = absurd is
   asked_by (Between stage) net policy is = absurd is
   asked_by (Renew part) net policy is = is.1.asked.asked
+  asked_by (Reuse part) net policy is = is.2.asked.asked
   asked_by (Under outlook) net policy is = is.1.asked.asked
   asked_by (After course) net policy is = is.1.asked.asked
 
@@ -128,4 +133,25 @@ module _ (holds : Holds) (words : List (List ℕ)) where
       evidence_spelled = spell.evidence_spelled;
       scenario_spelled = spell.scenario_spelled;
       tables_spelled = spell.tables_spelled;
+    }
+
+  module _ (part : Part) (net : PlainNet) (policy : PlainPolicy) (old : PlainConfig) (olds : List PlainCaseEvidence) where
+    pub spells_reuse : AsksOfReuse holds words part net policy old olds → SpellPair part holds (names_read words (Reuse part)) net policy old olds
+    spells_reuse asks = record {
+      spell = spells (Reuse part) net policy asks.asked;
+      config_text = asks.config_text;
+      evidence_text = asks.evidence_text;
+      more = asks.more;
+      config_spelled = asks.config_spelled;
+      evidence_spelled = asks.evidence_spelled;
+    }
+
+    pub asks_reuse : words_are words ≡ Some (Reuse part) → SpellPair part holds (names_read words (Reuse part)) net policy old olds → AsksOfReuse holds words part net policy old olds
+    asks_reuse is spell = record {
+      asked = asks_for (Reuse part) net policy is spell.spell;
+      config_text = spell.config_text;
+      evidence_text = spell.evidence_text;
+      more = spell.more;
+      config_spelled = spell.config_spelled;
+      evidence_spelled = spell.evidence_spelled;
     }

@@ -12,6 +12,7 @@ pub mod Migrate
 pub mod Promises
 pub mod Renew
 pub mod Replay
+pub mod Reuse
 pub mod RouteMap
 pub mod Sample
 pub mod Trace

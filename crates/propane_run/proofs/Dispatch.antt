@@ -31,6 +31,7 @@ use Rattle.judging_jobs.proofs.MigrateLaws.{migrate_job}
 use Rattle.judging_jobs.proofs.ConfigMapLaws.{config_maps_job}
 use Rattle.stage_jobs.proofs.BetweenLaws.{between_job}
 use Rattle.renewal_jobs.proofs.RenewalLaws.{renewal_job}
+use Rattle.renewal_jobs.proofs.ReuseLaws.{reuse_job}
 use Rattle.report_jobs.proofs.ReplayLaws.{replay_job}
 use Rattle.report_jobs.proofs.TraceLaws.{trace_job}
 use Rattle.report_jobs.proofs.DrainLaws.{drain_job}
@@ -42,7 +43,7 @@ use Rattle.report_jobs.proofs.WhatIfLaws.{whatif_job}
 use Rattle.report_jobs.proofs.MultipathLaws.{multipath_job}
 use Rattle.propane_run.specs.declared.command.Command.{Command}
 use Rattle.propane_run.specs.declared.command.Command.TheVariants.{Compile, Evidence, Check, Explain, Impact, RouteMap, CheckMap, Lint, Audit, Migrate}
-use Rattle.propane_run.specs.declared.command.Command.TheVariants.{Sample, Help, Version, Promises, Maps, Between, Renew, Under, After}
+use Rattle.propane_run.specs.declared.command.Command.TheVariants.{Sample, Help, Version, Promises, Maps, Between, Renew, Reuse, Under, After}
 use Rattle.propane_run.specs.declared.command.Course.{Course}
 use Rattle.propane_run.specs.declared.command.Course.TheVariants.{Trace, Settle, Waiting}
 use Rattle.propane_run.specs.declared.command.Outlook.{Outlook}
@@ -89,6 +90,7 @@ job_is Promises = promises_job (Unit {0}) ⊥ tt
 job_is Maps = config_maps_job (Unit {0}) ⊥ tt
 job_is (Between stage) = between_job stage (Unit {0}) (Unit {0}) tt tt
 job_is (Renew part) = renewal_job part (Unit {0}) ⊥ tt
+job_is (Reuse part) = reuse_job part (Unit {0}) ⊥ tt
 job_is (Under outlook) = under_is outlook
 job_is (After course) = after_is course
 

@@ -9,7 +9,7 @@ use Rattle.run_base.specs.Said.{text, Whole}
 use Rattle.run_base.proofs.Sent.{Gives, text_sent}
 use Rattle.propane_run.specs.declared.command.Command.{Command}
 use Rattle.propane_run.specs.declared.command.Command.TheVariants.{Compile, Evidence, Check, Explain, Impact, RouteMap, CheckMap, Lint, Audit, Migrate}
-use Rattle.propane_run.specs.declared.command.Command.TheVariants.{Sample, Help, Version, Promises, Maps, Between, Renew, Under, After}
+use Rattle.propane_run.specs.declared.command.Command.TheVariants.{Sample, Help, Version, Promises, Maps, Between, Renew, Reuse, Under, After}
 use Rattle.propane_run.specs.Ends.{EndsRight, Compiles as EndsCompiling}
 use Rattle.propane_run.specs.Run.{Job}
 use Rattle.propane_run.specs.Words.{names_read}
@@ -22,6 +22,7 @@ use Rattle.propane_run.proofs.ByCommand.Lint as lint
 use Rattle.propane_run.proofs.ByCommand.Maps as maps
 use Rattle.propane_run.proofs.ByCommand.Migrate as migrate
 use Rattle.propane_run.proofs.ByCommand.Renew as renew
+use Rattle.propane_run.proofs.ByCommand.Reuse as reuse
 use Rattle.propane_run.proofs.ByCommand.RouteMap as route_map
 use Rattle.propane_run.proofs.Compilers as compilers
 use Rattle.propane_run.proofs.Roles.{Compiles}
@@ -98,6 +99,12 @@ module _ {O E : Type 0} (ot : O → Option (List ℕ)) (of : O → ℕ) (et : E 
       λ none within calm. renew.renewed_where holds words part net policy old asks ot of et ef out out' err err' ended none within calm gives,
       λ e applies calm. renew.refused_where holds words part net policy old asks ot of et ef out out' err err' ended e calm applies gives,
       λ past calm. renew.past_where holds words part net policy old asks ot of et ef out out' err err' ended past calm gives,
+    )
+    ends (Reuse part) gives = λ net policy old olds asks. (
+      λ none within same calm. reuse.reused_where holds words part net policy old olds asks ot of et ef out out' err err' ended none within same calm gives,
+      λ e applies calm. reuse.refused_where holds words part net policy old olds asks ot of et ef out out' err err' ended e calm applies gives,
+      λ past calm. reuse.past_where holds words part net policy old olds asks ot of et ef out out' err err' ended past calm gives,
+      λ other calm. reuse.other_where holds words part net policy old olds asks ot of et ef out out' err err' ended other calm gives,
     )
     ends (Under outlook) gives = compiling (Under outlook) tt gives
     ends (After course) gives = compiling (After course) tt gives

@@ -4,6 +4,7 @@ use Rattle.std.specs.Prelude.{option_map, option_and_then, slice_get, codes, if�
 use Rattle.std.specs.Str.{bytes_eq}
 use Rattle.std.proofs.lemmas.Bool.{eqb-true}
 use Rattle.std.proofs.lemmas.Slice.Eq.{bytes_eq-Decides}
+use Rattle.compile_jobs.specs.declared.written.Part.{Part}
 use Rattle.compile_jobs.specs.declared.written.Part.TheVariants as part
 use Rattle.help_texts.specs.Pages.{topic_named, topics, word_of}
 use Rattle.help_texts.specs.declared.topic.Topic.{Topic}
@@ -12,10 +13,10 @@ use Rattle.list_law.proofs.Options.{option_and_then_parts, option_map_parts}
 use Rattle.list_law.proofs.Tests.{find_parts}
 use Rattle.propane_run.specs.declared.command.Command.{Command}
 use Rattle.propane_run.specs.declared.command.Command.TheVariants.{Compile, Evidence, Check, Explain, Impact, RouteMap, CheckMap, Lint, Audit, Migrate}
-use Rattle.propane_run.specs.declared.command.Command.TheVariants.{Sample, Help, Version, Promises, Maps, Between, Renew, Under, After}
+use Rattle.propane_run.specs.declared.command.Command.TheVariants.{Sample, Help, Version, Promises, Maps, Between, Renew, Reuse, Under, After}
 use Rattle.propane_run.specs.declared.command.Course.TheVariants.{Trace, Settle, Waiting}
 use Rattle.propane_run.specs.declared.command.Outlook.TheVariants.{Replay, Drain, WhatIf, Multipath}
-use Rattle.propane_run.specs.Words.{command_of, help_of, name_count, names_read, other_words, prefix_word, sample_number, stage_word, topic_asked, words_are}
+use Rattle.propane_run.specs.Words.{command_of, help_of, name_count, names_read, other_words, prefix_word, renewing, sample_number, stage_word, topic_asked, words_are}
 
 -- the command whose word a command's is
 abbrev topic_of : Command → Topic
@@ -37,6 +38,8 @@ topic_of Maps = topic.Maps
 topic_of (Between stage) = topic.Between
 topic_of (Renew part.Config) = topic.Renew
 topic_of (Renew part.Evidence) = topic.Renewal
+topic_of (Reuse part.Config) = topic.Renew
+topic_of (Reuse part.Evidence) = topic.Renewal
 topic_of (Under Replay) = topic.Replay
 topic_of (Under Drain) = topic.Drain
 topic_of (Under WhatIf) = topic.WhatIf
@@ -47,6 +50,13 @@ topic_of (After Waiting) = topic.Waiting
 
 is_of : (a c : Command) (t : Topic) → topic_of a ≡ t → Some a ≡ Some c → topic_of c ≡ t
 is_of a c t named h = let same : a ≡ c = cc in sym (ap topic_of same) ∙ named
+
+-- with evidence or without
+renews : (p : Part) (b : Bool) → topic_of (if b then Reuse p else Renew p) ≡ topic_of (Renew p)
+renews part.Config true = refl
+renews part.Config false = refl
+renews part.Evidence true = refl
+renews part.Evidence false = refl
 
 -- what a word names comes of it
 named : (t : Topic) (rest : List (List ℕ)) (c : Command) → command_of t rest ≡ Some c → topic_of c ≡ t
@@ -81,8 +91,8 @@ named topic.Between rest c h =
     let word = option_and_then_parts (λ w. option_map (λ s. Between s) (stage_word w)) (slice_get rest 2) c h in
     let stage = option_map_parts (λ s. Between s) (stage_word word.0) c word.2 in
     sym (ap topic_of stage.2)
-named topic.Renew rest c h = is_of (Renew part.Config) c topic.Renew refl h
-named topic.Renewal rest c h = is_of (Renew part.Evidence) c topic.Renewal refl h
+named topic.Renew rest c h = is_of (renewing part.Config rest) c topic.Renew (renews part.Config (nat_eq (length rest) 4)) h
+named topic.Renewal rest c h = is_of (renewing part.Evidence rest) c topic.Renewal (renews part.Evidence (nat_eq (length rest) 4)) h
 named topic.Waiting rest c h = is_of (After Waiting) c topic.Waiting refl h
 
 -- a word by which every program is asked names help or the version alone

@@ -13,7 +13,7 @@ use Rattle.report_jobs.specs.WhatIfs.{WritesWhatIf}
 use Rattle.report_jobs.specs.Spread.{WritesMultipath}
 use Rattle.propane_run.specs.declared.command.Command.{Command}
 use Rattle.propane_run.specs.declared.command.Command.TheVariants.{Compile, Evidence, Check, Explain, Impact, RouteMap, CheckMap, Lint, Audit, Migrate}
-use Rattle.propane_run.specs.declared.command.Command.TheVariants.{Sample, Help, Version, Promises, Maps, Between, Renew, Under, After}
+use Rattle.propane_run.specs.declared.command.Command.TheVariants.{Sample, Help, Version, Promises, Maps, Between, Renew, Reuse, Under, After}
 use Rattle.propane_run.specs.declared.command.Course.{Course}
 use Rattle.propane_run.specs.declared.command.Course.TheVariants.{Trace, Settle, Waiting}
 use Rattle.propane_run.specs.declared.command.Outlook.{Outlook}
@@ -32,6 +32,7 @@ use Rattle.propane_run.proofs.ByCommand.Maps as maps
 use Rattle.propane_run.proofs.ByCommand.Migrate as migrate
 use Rattle.propane_run.proofs.ByCommand.Promises as promises
 use Rattle.propane_run.proofs.ByCommand.Renew as renew
+use Rattle.propane_run.proofs.ByCommand.Reuse as reuse
 use Rattle.propane_run.proofs.ByCommand.Replay as replay
 use Rattle.propane_run.proofs.ByCommand.RouteMap as route_map
 use Rattle.propane_run.proofs.ByCommand.Sample as sample
@@ -72,6 +73,7 @@ module _ {S : Type 0} (holds : Holds) (words : List (List ℕ)) (taken : S → O
   done Maps comes = maps.right holds words taken before now b written comes
   done (Between stage) comes = between.right holds words stage taken before now b written comes
   done (Renew part) comes = renew.right holds words part taken before now b written comes
+  done (Reuse part) comes = reuse.right holds words part taken before now b written comes
   done (Under outlook) comes = under outlook comes
   done (After course) comes = after course comes
 
@@ -82,6 +84,7 @@ module _ {S : Type 0} (holds : Holds) (words : List (List ℕ)) (taken : S → O
   refused Maps refuses comes = maps.refused holds words taken before now b written comes
   refused (Between stage) refuses comes = between.refused holds words stage taken before now b written comes
   refused (Renew part) refuses comes = renew.refused holds words part taken before now b written comes
+  refused (Reuse part) refuses comes = reuse.refused holds words part taken before now b written comes
   refused Compile refuses comes = compilers.refused holds words taken before now b written Compile refuses comes
   refused Evidence refuses comes = compilers.refused holds words taken before now b written Evidence refuses comes
   refused (Impact x) refuses comes = compilers.refused holds words taken before now b written (Impact x) refuses comes

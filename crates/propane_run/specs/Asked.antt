@@ -9,13 +9,15 @@ use Rattle.scenario_reader.specs.Spelled.{spelled as scenario_spelled}
 use Rattle.compile_jobs.specs.declared.written.Part.{Part}
 use Rattle.config_base.specs.Configs.{PlainConfig}
 use Rattle.config_reader.specs.Text.{spelled as config_spelled}
+use Rattle.evidence_base.specs.Made.{PlainCaseEvidence}
+use Rattle.evidence_text.specs.Spelled.{spelled as evidence_spelled}
 use Rattle.event_reader.specs.declared.events.Events.{Events}
 use Rattle.event_reader.specs.Spelled.{spelled as events_spelled}
 use Rattle.sample_network.specs.Network.{sample_net}
 use Rattle.sample_network.specs.SamplePolicy.{sample_policy}
 use Rattle.propane_run.specs.declared.command.Command.{Command}
 use Rattle.propane_run.specs.declared.command.Command.TheVariants.{Compile, Evidence, Check, Explain, Impact, RouteMap, CheckMap, Lint, Audit, Migrate}
-use Rattle.propane_run.specs.declared.command.Command.TheVariants.{Sample, Help, Version, Promises, Maps, Between, Renew, Under, After}
+use Rattle.propane_run.specs.declared.command.Command.TheVariants.{Sample, Help, Version, Promises, Maps, Between, Renew, Reuse, Under, After}
 use Rattle.propane_run.specs.Words.{words_are, names_read}
 use Rattle.run_base.specs.Reading.{Holds, AllHeld}
 
@@ -49,6 +51,16 @@ AsksOfEvents = AsksAlso events_spelled
 abbrev pub AsksOfRenewal : Holds → List (List ℕ) → Part → PlainNet → PlainPolicy → PlainConfig → Type 0
 AsksOfRenewal holds words part = AsksAlso (λ (net : PlainNet). config_spelled) holds words (Renew part)
 
+-- The words are this command, and the bytes of the last two names that it reads spell an old configuration and evidence, too.
+pub record AsksOfReuse (holds : Holds) (words : List (List ℕ)) (part : Part) (net : PlainNet) (policy : PlainPolicy) (old : PlainConfig)
+    (evidence : List PlainCaseEvidence) : Type 0 where
+  pub asked : AsksFor holds words (Reuse part) net policy
+  pub config_text : List ℕ
+  pub evidence_text : List ℕ
+  pub more : asked.more ≡ config_text ∷ evidence_text ∷ []
+  pub config_spelled : config_spelled config_text ≡ Ok old
+  pub evidence_spelled : evidence_spelled evidence_text ≡ Ok evidence
+
 -- The words are `sample` with this number, and these are its network and its policy.
 pub record IsSampled (words : List (List ℕ)) (n : ℕ) (net : PlainNet) (policy : PlainPolicy) : Type 0 where
   pub asked : words_are words ≡ Some (Sample n)
@@ -56,7 +68,7 @@ pub record IsSampled (words : List (List ℕ)) (n : ℕ) (net : PlainNet) (polic
   pub policy_is : policy ≡ sample_policy n
 
 -- The network and the policy of a command that has both: those that its inputs spell, or those of the sample of its number. Where a
--- scenario is read, too, or events, or an old configuration, the inputs spell them.
+-- scenario is read, too, or events, or an old configuration and its evidence, the inputs spell them.
 abbrev pub IsFor : Holds → List (List ℕ) → Command → PlainNet → PlainPolicy → Type 0
 IsFor holds words Compile net policy = AsksFor holds words Compile net policy
 IsFor holds words Evidence net policy = AsksFor holds words Evidence net policy
@@ -75,5 +87,6 @@ IsFor holds words Promises net policy = AsksFor holds words Promises net policy
 IsFor holds words Maps net policy = ⊥
 IsFor holds words (Between stage) net policy = ⊥
 IsFor holds words (Renew part) net policy = (old : PlainConfig) × AsksOfRenewal holds words part net policy old
+IsFor holds words (Reuse part) net policy = (old : PlainConfig) × (evidence : List PlainCaseEvidence) × AsksOfReuse holds words part net policy old evidence
 IsFor holds words (Under outlook) net policy = (scenario : Scenario) × AsksUnder holds words (Under outlook) net policy scenario
 IsFor holds words (After course) net policy = (events : Events) × AsksOfEvents holds words (After course) net policy events

@@ -19,13 +19,15 @@ use Rattle.refusal_lines.specs.RefusalLines.{refusal_line}
 use Rattle.evidence_law.specs.Passes.{Passes}
 use Rattle.route_maps.specs.Maps.{PlainMaps}
 use Rattle.route_maps.specs.OfConfig.{maps_of}
+use Rattle.evidence_reuse.specs.Reused.{IsOther}
 use Rattle.renewal_jobs.specs.Renewing.{PrefsRunOut, run_out_line, top_of}
+use Rattle.renewal_jobs.specs.Reusing.{other_line}
 use Rattle.run_base.specs.Reading.{Holds}
 use Rattle.scenarios.specs.Scenarios.{failures_of}
 use Rattle.propane_run.specs.declared.command.Command.{Command}
 use Rattle.propane_run.specs.declared.command.Command.TheVariants.{Compile, Evidence, Check, Explain, Sample, Migrate, Impact, RouteMap, CheckMap, Lint}
-use Rattle.propane_run.specs.declared.command.Command.TheVariants.{Audit, Help, Version, Promises, Maps, Between, Renew, Under, After}
-use Rattle.propane_run.specs.Asked.{AsksFor, AsksOfRenewal, IsFor}
+use Rattle.propane_run.specs.declared.command.Command.TheVariants.{Audit, Help, Version, Promises, Maps, Between, Renew, Reuse, Under, After}
+use Rattle.propane_run.specs.Asked.{AsksFor, AsksOfRenewal, AsksOfReuse, IsFor}
 use Rattle.propane_run.specs.Auditing.{AsksAudit}
 use Rattle.propane_run.specs.Checking.{AsksOf}
 use Rattle.propane_run.specs.Mapping.{AsksOfConfig, AsksOfMaps}
@@ -88,5 +90,10 @@ module _ (holds : Holds) (words : List (List ℕ)) (Succeeds Fails : Type 0) (Re
       → (IsFree net policy → ¬ PrefsRunOut net policy old → Succeeds)
       × ((e : CompileRefusal) → IsRefusedFor net policy e → Refuses (refusal_line net e))
       × (PrefsRunOut net policy old → Refuses (run_out_line (top_of old)))
+  EndsRight (Reuse part) = (net : PlainNet) (policy : PlainPolicy) (old : PlainConfig) (olds : List PlainCaseEvidence) → AsksOfReuse holds words part net policy old olds
+      → (IsFree net policy → ¬ PrefsRunOut net policy old → ¬ IsOther net policy old olds → Succeeds)
+      × ((e : CompileRefusal) → IsRefusedFor net policy e → Refuses (refusal_line net e))
+      × (PrefsRunOut net policy old → Refuses (run_out_line (top_of old)))
+      × (IsOther net policy old olds → Refuses other_line)
   EndsRight (Under outlook) = Compiles (Under outlook)
   EndsRight (After course) = Compiles (After course)

@@ -18,6 +18,7 @@ pub mod Promising
 pub mod Refusing
 pub mod Renewing
 pub mod Replaying
+pub mod Reusing
 pub mod Run
 pub mod Sampling
 pub mod Staging

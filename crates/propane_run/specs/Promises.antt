@@ -18,13 +18,13 @@ use Rattle.run_base.specs.Reading.{Holds}
 use Rattle.run_base.specs.Said.{Whole}
 use Rattle.propane_run.specs.declared.command.Command.{Command}
 use Rattle.propane_run.specs.declared.command.Command.TheVariants.{Compile, Evidence, Check, Explain, Sample, Migrate, Impact, RouteMap, CheckMap, Lint}
-use Rattle.propane_run.specs.declared.command.Command.TheVariants.{Audit, Help, Version, Promises, Maps, Between, Renew, Under, After}
+use Rattle.propane_run.specs.declared.command.Command.TheVariants.{Audit, Help, Version, Promises, Maps, Between, Renew, Reuse, Under, After}
 use Rattle.propane_run.specs.declared.command.Course.{Course}
 use Rattle.propane_run.specs.declared.command.Course.TheVariants.{Trace, Settle, Waiting}
 use Rattle.propane_run.specs.declared.command.Outlook.{Outlook}
 use Rattle.propane_run.specs.declared.command.Outlook.TheVariants.{Replay, Drain, WhatIf, Multipath}
 use Rattle.propane_run.specs.Answering.{AnswersRight}
-use Rattle.propane_run.specs.Asked.{AsksFor}
+use Rattle.propane_run.specs.Asked.{AsksFor, AsksOfRenewal, AsksOfReuse}
 use Rattle.propane_run.specs.Auditing.{AuditsRight, TellsAuditFault}
 use Rattle.propane_run.specs.Staging.{TellsTheWay, TellsTooLong, WritesStage}
 use Rattle.propane_run.specs.Checking.{AsksOf, ChecksRight, TellsFault}
@@ -38,6 +38,7 @@ use Rattle.propane_run.specs.Promising.{PromisesRight}
 use Rattle.propane_run.specs.Refusing.{RefusesRight}
 use Rattle.propane_run.specs.Renewing.{RenewsRight, TellsRunOut}
 use Rattle.propane_run.specs.Replaying.{ReplaysRight}
+use Rattle.propane_run.specs.Reusing.{ReusesRight, TellsOther}
 use Rattle.propane_run.specs.Sampling.{Samples}
 use Rattle.propane_run.specs.Tracing.{TracesRight}
 use Rattle.propane_run.specs.Waiting.{WaitsRight}
@@ -94,7 +95,12 @@ Promised holds taken words (Between stage) Done s s' = WritesStage holds taken w
 Promised holds taken words (Between stage) CheckFails s s' = TellsTheWay holds taken words stage s s'
 Promised holds taken words (Between stage) Refused s s' = TellsTooLong holds taken words stage s s'
 Promised holds taken words (Renew part) Done s s' = RenewsRight holds taken words part s s'
-Promised holds taken words (Renew part) Refused s s' = RefusesRight holds taken words (Renew part) s s' ⊎ TellsRunOut holds taken words part s s'
+Promised holds taken words (Renew part) Refused s s' = RefusesRight holds taken words (Renew part) s s' ⊎ TellsRunOut (AsksOfRenewal holds words part) taken s s'
+Promised holds taken words (Reuse part) Done s s' = ReusesRight holds taken words part s s'
+Promised holds taken words (Reuse part) Refused s s' =
+    RefusesRight holds taken words (Reuse part) s s'
+    ⊎ TellsRunOut (λ net policy old. (olds : List PlainCaseEvidence) × AsksOfReuse holds words part net policy old olds) taken s s'
+    ⊎ TellsOther holds taken words part s s'
 Promised holds taken words (Under outlook) Done s s' = AnswersUnder holds taken words outlook s s'
 Promised holds taken words (Under outlook) Refused s s' = RefusesRight holds taken words (Under outlook) s s'
 Promised holds taken words (After course) Done s s' = AnswersAfter holds taken words course s s'

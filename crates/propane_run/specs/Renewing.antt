@@ -41,10 +41,10 @@ pub record RenewsRight {O : Type 0} (holds : Holds) (taken : O → Option (List 
 
 -- `err` grew by exactly the line that above the greatest preference of the old configuration there are too few for the policy that was
 -- asked for, which is so.
-pub record TellsRunOut {E : Type 0} (holds : Holds) (taken : E → Option (List ℕ)) (words : List (List ℕ)) (part : Part) (err err' : E) : Type 0 where
+pub record TellsRunOut {E : Type 0} (Asks : PlainNet → PlainPolicy → PlainConfig → Type 0) (taken : E → Option (List ℕ)) (err err' : E) : Type 0 where
   pub net : PlainNet
   pub policy : PlainPolicy
   pub old : PlainConfig
-  pub asked : AsksOfRenewal holds words part net policy old
+  pub asked : Asks net policy old
   pub past : PrefsRunOut net policy old
   pub written : Whole taken (run_out_line (top_of old)) err err'

@@ -2,7 +2,7 @@
 use Rattle.std.specs.Prelude.{◌≡◌, ℕ, List, Option, Some, None}
 use Rattle.propane_run.specs.declared.command.Command.{Command}
 use Rattle.propane_run.specs.declared.command.Command.TheVariants.{Compile, Evidence, Check, Explain, Impact, RouteMap, CheckMap, Lint, Audit, Migrate}
-use Rattle.propane_run.specs.declared.command.Command.TheVariants.{Sample, Help, Version, Promises, Maps, Between, Renew, Under, After}
+use Rattle.propane_run.specs.declared.command.Command.TheVariants.{Sample, Help, Version, Promises, Maps, Between, Renew, Reuse, Under, After}
 use Rattle.propane_run.specs.Outlooks.{WritesUnder, WritesAfter}
 use Rattle.propane_run.specs.Words.{names_read, usage, words_are}
 use Rattle.run_base.specs.Reading.{Holds, ReadsAll, AllHeld, FailedAs}
@@ -25,6 +25,7 @@ use Rattle.judging_jobs.specs.Migrated as migrate
 use Rattle.compile_jobs.specs.Sampled.{SaysOfNumber}
 use Rattle.compile_jobs.specs.Written.{SaysOfPart}
 use Rattle.renewal_jobs.specs.Renewing as renewals
+use Rattle.renewal_jobs.specs.Reusing as reuses
 use Rattle.report_jobs.specs.Promised as promises
 use Rattle.run_base.specs.declared.outcome.Status.{Status}
 use Rattle.run_base.specs.Said.{Delivered, IsGiven, Said, text}
@@ -48,6 +49,7 @@ Job Promises = promises.SaysOfTexts
 Job Maps = config_maps.SaysOfTexts
 Job (Between stage) = between.SaysOfTexts stage
 Job (Renew part) = renewals.SaysOfTexts part
+Job (Reuse part) = reuses.SaysOfTexts part
 Job (Under outlook) = SaysOfThree scenario_line scenario_spelled (WritesUnder outlook)
 Job (After course) = SaysOfThree events_line events_spelled (WritesAfter course)
 

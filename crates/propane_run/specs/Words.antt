@@ -3,6 +3,7 @@ use Rattle.std.specs.Prelude.{ℕ, ◌+◌, ◌<◌, Bool, ◌&&◌, ◌||◌, n
 use Rattle.std.specs.Result.{result_ok}
 use Rattle.std.specs.List.{AllByRecursion}
 use Rattle.std.specs.Str.{bytes_eq}
+use Rattle.compile_jobs.specs.declared.written.Part.{Part}
 use Rattle.compile_jobs.specs.declared.written.Part.TheVariants as part
 use Rattle.help_texts.specs.Pages.{topic_named, usage_text}
 use Rattle.help_texts.specs.declared.topic.Topic.{Topic}
@@ -17,7 +18,7 @@ use Rattle.run_base.specs.Reading.{names_at, word_at}
 use Rattle.run_base.specs.Said.{Said, line}
 use Rattle.propane_run.specs.declared.command.Command.{Command}
 use Rattle.propane_run.specs.declared.command.Command.TheVariants.{Compile, Evidence, Check, Explain, Impact, RouteMap, CheckMap, Lint, Audit, Migrate}
-use Rattle.propane_run.specs.declared.command.Command.TheVariants.{Sample, Help, Version, Promises, Maps, Between, Renew, Under, After}
+use Rattle.propane_run.specs.declared.command.Command.TheVariants.{Sample, Help, Version, Promises, Maps, Between, Renew, Reuse, Under, After}
 use Rattle.propane_run.specs.declared.command.Course.TheVariants.{Trace, Settle, Waiting}
 use Rattle.propane_run.specs.declared.command.Outlook.TheVariants.{Replay, Drain, WhatIf, Multipath}
 
@@ -48,6 +49,10 @@ abbrev pub help_of : List (List ℕ) → Option (Option Topic)
 help_of [] = Some None
 help_of (word ∷ rest) = option_map (λ t. Some t) (topic_named word)
 
+-- to renew, with the evidence of the old configuration where it is named
+abbrev pub renewing : Part → List (List ℕ) → Command
+renewing p rest = if nat_eq (length rest) 4 then Reuse p else Renew p
+
 -- a command, with what the words after its own say besides names
 abbrev pub command_of : Topic → List (List ℕ) → Option Command
 command_of topic.Compile rest = Some Compile
@@ -72,8 +77,8 @@ command_of topic.WhatIf rest = Some (Under WhatIf)
 command_of topic.Multipath rest = Some (Under Multipath)
 command_of topic.Maps rest = Some Maps
 command_of topic.Between rest = option_and_then (λ word. option_map (λ s. Between s) (stage_word word)) (slice_get rest 2)
-command_of topic.Renew rest = Some (Renew part.Config)
-command_of topic.Renewal rest = Some (Renew part.Evidence)
+command_of topic.Renew rest = Some (renewing part.Config rest)
+command_of topic.Renewal rest = Some (renewing part.Evidence rest)
 command_of topic.Waiting rest = Some (After Waiting)
 
 -- how many names a command reads
@@ -95,6 +100,7 @@ name_count Promises = 2
 name_count Maps = 1
 name_count (Between stage) = 2
 name_count (Renew part) = 3
+name_count (Reuse part) = 4
 name_count (Under outlook) = 3
 name_count (After course) = 3
 

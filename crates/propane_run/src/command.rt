@@ -16,6 +16,7 @@ ghost use Rattle.propane_run.specs.Words.{
   name_count,
   other_words,
   places_of,
+  renewing as renewing_by,
   HasNumber,
   IsWithin,
 };
@@ -89,6 +90,8 @@ pub enum Command {
     Between(Stage),
     /// `renew TOPO POLICY CONFIG`, or `renewal` of the same: the part that it writes.
     Renew(Part),
+    /// `renew TOPO POLICY CONFIG EVIDENCE`, or `renewal` of the same: the part that it writes.
+    Reuse(Part),
     /// A command on a topology, a policy and a scenario.
     Under(Outlook),
     /// A command on a topology, a policy and events.
@@ -124,8 +127,8 @@ impl Command {
             Topic::Multipath => Some(Command::Under(Outlook::Multipath)),
             Topic::Maps => Some(Command::Maps),
             Topic::Between => Some(Command::Between(stage_of(rest.get(2)?.as_str())?)),
-            Topic::Renew => Some(Command::Renew(Part::Config)),
-            Topic::Renewal => Some(Command::Renew(Part::Evidence)),
+            Topic::Renew => Some(renewing(Part::Config, rest)),
+            Topic::Renewal => Some(renewing(Part::Evidence, rest)),
             Topic::Waiting => Some(Command::After(Course::Waiting)),
         }
     }
@@ -147,7 +150,7 @@ impl Command {
             | Command::Promises
             | Command::Between(_) => 2,
             Command::Renew(_) | Command::Under(_) | Command::After(_) => 3,
-            Command::Check => 4,
+            Command::Check | Command::Reuse(_) => 4,
             Command::Audit => 6,
         }
     }
@@ -170,6 +173,17 @@ impl Command {
         ensures { result.now ≡ places_of self.now }
     {
         &PLACES[..self.name_count()]
+    }
+}
+
+// To renew, with the evidence of the old configuration where it is named.
+fn renewing(part: Part, rest: &[String]) -> Command
+    ensures { result ≡ renewing_by part (map string_bytes rest.now) }
+{
+    if rest.len() == 4 {
+        Command::Reuse(part)
+    } else {
+        Command::Renew(part)
     }
 }
 

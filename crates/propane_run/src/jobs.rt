@@ -16,7 +16,7 @@ use judging_jobs::{
     route_map_texts,
 };
 use net_base::List;
-use renewal_jobs::renewal_texts;
+use renewal_jobs::{renewal_texts, reuse_texts};
 use report_jobs::{
     DrainCommand, MultipathCommand, ReplayCommand, SettleCommand, TraceCommand, WaitingCommand,
     WhatIfCommand, impact_texts, promises_texts,
@@ -124,6 +124,14 @@ pub fn job(alloc: Global, command: &Command, texts: &[List<u8>]) -> Result<Vec<u
             text(texts, 0),
             text(texts, 1),
             text(texts, 2),
+        ),
+        Command::Reuse(part) => reuse_texts(
+            alloc,
+            part,
+            text(texts, 0),
+            text(texts, 1),
+            text(texts, 2),
+            text(texts, 3),
         ),
         Command::Under(outlook) => under(alloc, outlook, texts),
         Command::After(course) => after(alloc, course, texts),

@@ -1,2 +1,4 @@
 pub mod RenewalLaws
 pub mod Renewals
+pub mod ReuseLaws
+pub mod Reuses

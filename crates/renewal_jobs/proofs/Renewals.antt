@@ -31,7 +31,7 @@ never_past taken by cs ds are past =
     omega (arith, AllByRecursion-IsIn (λ n. raised by n < 2 ^ 32) past.case.numbers past.number d.2.fit past.among, past.past)
 
 -- a part of what is renewed has one text
-part_text : (part : Part) (config : PlainConfig) (evidence : List PlainCaseEvidence) (one other : List ℕ) → WritesPart part config evidence one → WritesPart part config evidence other → one ≡ other
+pub part_text : (part : Part) (config : PlainConfig) (evidence : List PlainCaseEvidence) (one other : List ℕ) → WritesPart part config evidence one → WritesPart part config evidence other → one ≡ other
 part_text Config config evidence one other a b = a.written ∙ sym b.written
 part_text Evidence config evidence one other a b = a ∙ sym b
 

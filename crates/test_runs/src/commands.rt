@@ -19,7 +19,7 @@ pub(crate) const COMPILE: Row = (
 );
 
 /// Each command, as it ends in each way.
-pub(crate) const ROWS: [Row; 37] = [
+pub(crate) const ROWS: [Row; 38] = [
     COMPILE,
     (
         "evidence",
@@ -192,6 +192,12 @@ pub(crate) const ROWS: [Row; 37] = [
     (
         "renewal",
         &[Text::Routers, Text::AnyPath, Text::Config],
+        &[],
+        Status::Done,
+    ),
+    (
+        "renew",
+        &[Text::Routers, Text::AnyPath, Text::Config, Text::Evidence],
         &[],
         Status::Done,
     ),

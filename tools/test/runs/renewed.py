@@ -96,4 +96,42 @@ end
      BAD_INPUT, "propane: policy 4 syntax at 1:12\n"),
     ("a block that isn't closed", ["renewal"], [TWO_ROUTERS, ANY_PATH, "propane-config 2\nrouter A asn 64512 id 10.255.0.1\n"],
      BAD_INPUT, "propane: config 6 unfinished\n"),
+    ("with the evidence of the old configuration the same policy stays", ["renew"],
+     [TWO_ROUTERS, ANY_PATH, TWO_ROUTERS_CONFIG, TWO_ROUTERS_EVIDENCE], DONE, TWO_ROUTERS_CONFIG),
+    ("and its evidence", ["renewal"], [TWO_ROUTERS, ANY_PATH, TWO_ROUTERS_CONFIG, TWO_ROUTERS_EVIDENCE], DONE, TWO_ROUTERS_EVIDENCE),
+    ("also where its preferences are above those of compile by as much", ["renew"],
+     [TWO_ROUTERS, ANY_PATH, RENEWED_CONFIG, RENEWED_EVIDENCE], DONE, RENEWED_CONFIG),
+    ("what stays doesn't come above what it was", ["renewal"], [TWO_ROUTERS, ANY_PATH, RENEWED_CONFIG, RENEWED_EVIDENCE], DONE, RENEWED_EVIDENCE),
+    ("a class with one more prefix doesn't stay", ["renew"],
+     [TWO_ROUTERS, "originate 10.0.1.0/24 at A; originate 10.0.2.0/24 at A; true => any;", TWO_ROUTERS_CONFIG, TWO_ROUTERS_EVIDENCE], DONE,
+     RENEWED_CONFIG.replace("class 1 10.0.1.0/24", "class 1 10.0.1.0/24, 10.0.2.0/24")
+     .replace("originate 1 10.0.1.0/24 tag 64512:0:2\n", "originate 1 10.0.1.0/24 tag 64512:0:2\noriginate 1 10.0.2.0/24 tag 64512:0:2\n")),
+    ("a class beside it does", ["renew"],
+     [TWO_ROUTERS, "originate 10.0.1.0/24 at A; originate 10.0.2.0/24 at B; true => any;", TWO_ROUTERS_CONFIG, TWO_ROUTERS_EVIDENCE], DONE, """\
+propane-config 2
+class 1 10.0.1.0/24
+class 2 10.0.2.0/24
+router A asn 64512 id 10.255.0.1
+originate 1 10.0.1.0/24 tag 64512:0:1
+session B asn 64513
+import 2 tag 64513:0:3 set 64512:0:3 pref 200
+export 1 tag 64512:0:1
+end
+router B asn 64513 id 10.255.0.2
+originate 2 10.0.2.0/24 tag 64513:0:3
+session A asn 64512
+import 1 tag 64512:0:1 set 64513:0:1 pref 100
+export 2 tag 64513:0:3
+end
+"""),
+    ("an old configuration's evidence in which a preference is another", ["renewal"],
+     [TWO_ROUTERS, ANY_PATH, topped(7), TWO_ROUTERS_EVIDENCE], REFUSED, "propane: refused 11 other-evidence\n"),
+    ("evidence with the tags of another router", ["renew"],
+     [TWO_ROUTERS, ANY_PATH, TWO_ROUTERS_CONFIG, TWO_ROUTERS_EVIDENCE.replace("64513", "64512")], REFUSED, "propane: refused 11 other-evidence\n"),
+    ("evidence of what came before", ["renew"], [TWO_ROUTERS, ANY_PATH, RENEWED_CONFIG, TWO_ROUTERS_EVIDENCE], REFUSED,
+     "propane: refused 11 other-evidence\n"),
+    ("a fault of the evidence comes after one of the configuration", ["renew"], [TWO_ROUTERS, ANY_PATH, "propane-config 1\n", "{"], BAD_INPUT,
+     "propane: config 1 version\n"),
+    ("and before a refusal", ["renewal"], [WAYPOINT_RING, "originate 10.0.1.0/24 at D; 10.0.1.0/24 => through(W) >> any;", NOTHING, "{"], BAD_INPUT,
+     "propane: evidence 1 not-json\n"),
 ]

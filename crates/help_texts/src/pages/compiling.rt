@@ -151,7 +151,7 @@ example
 ";
 
 /// How `renew` is used.
-pub const RENEW: &str = "usage: propane renew TOPO POLICY CONFIG
+pub const RENEW: &str = "usage: propane renew TOPO POLICY CONFIG [EVIDENCE]
 
 Compiles the policy as compile does, into a configuration that may take over
 from CONFIG while the network runs: at each router its tags are the least that
@@ -160,10 +160,15 @@ CONFIG. It keeps the policy as what compile writes does. No tag stands in both,
 and each of its preferences is above each of CONFIG. CONFIG may be of any
 network; its tags and its preferences alone matter.
 
+With EVIDENCE what stays keeps its tags and its preferences, and so its lines: a
+class with the patterns of an old one that alone shares prefixes with it, where
+the graph of its case is the same, and preferences stand alike.
+
 reads
-  TOPO    a topology text: routers, peers and links
-  POLICY  a policy text for that network: the new one
-  CONFIG  the old configuration, a text of the second edition
+  TOPO      a topology text: routers, peers and links
+  POLICY    a policy text for that network: the new one
+  CONFIG    the old configuration, a text of the second edition
+  EVIDENCE  the evidence of CONFIG
 
 writes
   output        the configuration text, a block for each router
@@ -171,7 +176,7 @@ writes
 
 status
   0  the configuration is written
-  1  the policy is refused, or preferences run out
+  1  the policy is refused, preferences run out, or EVIDENCE is another's
   3  an input is too long, or no text of its kind
   4  an input cannot be read
   5  the output, or the line, cannot be written whole
@@ -180,18 +185,21 @@ status
 example
   cd examples/two-exits
   propane renew topology.json policy.propane compile.stdout
+  propane evidence topology.json policy.propane > evidence.json
+  propane renew topology.json policy.propane compile.stdout evidence.json
 ";
 
 /// How `renewal` is used.
-pub const RENEWAL: &str = "usage: propane renewal TOPO POLICY CONFIG
+pub const RENEWAL: &str = "usage: propane renewal TOPO POLICY CONFIG [EVIDENCE]
 
 Writes the evidence for what renew writes of the same texts: it passes check
 with that.
 
 reads
-  TOPO    a topology text: routers, peers and links
-  POLICY  a policy text for that network: the new one
-  CONFIG  the old configuration, a text of the second edition
+  TOPO      a topology text: routers, peers and links
+  POLICY    a policy text for that network: the new one
+  CONFIG    the old configuration, a text of the second edition
+  EVIDENCE  the evidence of CONFIG
 
 writes
   output        the evidence text, one line of JSON
@@ -199,7 +207,7 @@ writes
 
 status
   0  the evidence is written
-  1  the policy is refused, or preferences run out
+  1  the policy is refused, preferences run out, or EVIDENCE is another's
   3  an input is too long, or no text of its kind
   4  an input cannot be read
   5  the output, or the line, cannot be written whole

@@ -72,7 +72,7 @@ module _ (holds : Holds) (words : List (List ℕ)) (part : Part) where
       right_by (inr (inl h)) = absurd (let s = status_is _ _ h.1 in cc)
       right_by (inr (inr h)) = absurd (let s = status_is _ _ h.2 in cc)
 
-      refused_by : SaysOfOld part net policy old (line Refused b) → RefusesRight holds taken words c before now ⊎ TellsRunOut holds taken words part before now
+      refused_by : SaysOfOld part net policy old (line Refused b) → RefusesRight holds taken words c before now ⊎ TellsRunOut (AsksOfRenewal holds words part) taken before now
       refused_by (inl h) = absurd (let s = status_is _ _ h.5 in cc)
       refused_by (inr (inl h)) = inr (record { net = net; policy = policy; old = old; asked = asks; past = h.0; written = rw (err_is _ _ h.1) at written })
       refused_by (inr (inr h)) = inl (record { net = net; policy = policy; asked = (old, asks); refusal = h.0; refused = h.1; written = rw (err_is _ _ h.2) at written })
@@ -84,7 +84,7 @@ module _ (holds : Holds) (words : List (List ℕ)) (part : Part) where
         right_by f.net f.policy f.old f.asked (asks_also holds words (λ (net : PlainNet). config_spelled) c f.net f.policy comes.is f.old f.asked) f.says
 
     -- a refusal that is told applies
-    pub refused : Comes holds words c (line Refused b) → RefusesRight holds taken words c before now ⊎ TellsRunOut holds taken words part before now
+    pub refused : Comes holds words c (line Refused b) → RefusesRight holds taken words c before now ⊎ TellsRunOut (AsksOfRenewal holds words part) taken before now
     refused comes =
         let f = said_for part holds (names_read words c) (line Refused b) (λ x. cc) comes.bytes comes.held comes.says in
         refused_by f.net f.policy f.old f.asked (asks_also holds words (λ (net : PlainNet). config_spelled) c f.net f.policy comes.is f.old f.asked) f.says
