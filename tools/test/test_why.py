@@ -191,7 +191,8 @@ class Why(unittest.TestCase):
         words = [os.path.join(TOP, "tools", "why"), example("cookbook", "abilene.json"), example("cookbook", "all-first.propane")]
         with subprocess.Popen(words, stdin=subprocess.DEVNULL, stdout=subprocess.PIPE, stderr=subprocess.PIPE,
                               env=dict(ENVIRONMENT, TMPDIR=self.folder)) as why:
-            while not os.listdir(self.folder) and why.poll() is None:
+            # (Python tries first whether it may write there, by a file of another name.)
+            while not any(each.startswith("why.") for each in os.listdir(self.folder)) and why.poll() is None:
                 time.sleep(0.01)
             why.send_signal(signal.SIGTERM)
             err = why.communicate(timeout=60)[1]
