@@ -65,7 +65,11 @@ def meanings(maps: str) -> dict[str, str]:
         if line.startswith("list "):
             _, number, row = line.split(" ", 2)
             lists[number].append(row)
-    return {name: re.sub(r" list (\d+)", lambda found: f" list {lists[found[1]]}", block) for name, block in blocks(maps).items()}
+
+    def spelled(found: re.Match[str]) -> str:
+        return f" list {lists[found[1]]}"
+
+    return {name: re.sub(r" list (\d+)", spelled, block) for name, block in blocks(maps).items()}
 
 
 def steps(maps: dict[Stage, str]) -> list[Told]:
