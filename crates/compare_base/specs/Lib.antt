@@ -1,2 +1,3 @@
 pub mod Cases
 pub mod Ranks
+pub mod Same

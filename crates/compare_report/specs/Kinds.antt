@@ -19,18 +19,9 @@ use Rattle.compare_report.specs.declared.carriers.Carrying.TheVariants.{Lost, Ga
 use Rattle.compare_lines.specs.Lists.{all_routers, routers_line, sessions_of, sessions_text}
 use Rattle.compare_report.specs.Groups.{part_lines}
 use Rattle.compare_lines.specs.Rows.{row_lines}
+use Rattle.compare_base.specs.Same.{same_place, same_row, same_words}
 
 -- ---- the same kind at several pairs
-
-abbrev pub same_words : Words → Words → Bool
-same_words (Partly lost gained reordered) (Partly lost' gained' reordered') = beq lost lost' && (beq gained gained' && beq reordered reordered')
-same_words Unclaimed Unclaimed = true
-same_words Claimed Claimed = true
-same_words Replaced Replaced = true
-same_words _ _ = false
-
-abbrev pub same_row : Row → Row → Bool
-same_row a b = option_eq nat_eq a.old b.old && option_eq nat_eq a.new b.new
 
 -- the same words and rows
 abbrev pub same_kind : Kind → Kind → Bool
@@ -41,9 +32,6 @@ abbrev pub has_kind : Kind → ComparedPair → Bool
 has_kind k x = list_any (same_kind k) x.change.kinds
 
 -- ---- for whom
-
-abbrev pub same_place : Place → Place → Bool
-same_place a b = nat_eq a.router b.router && option_eq nat_eq a.peer b.peer
 
 abbrev pub has_place : Kind → Place → Kind → Bool
 has_place k place other = same_kind k other && list_any (λ p. same_place p place) other.places

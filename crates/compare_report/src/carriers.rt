@@ -4,7 +4,8 @@ ghost use Rattle.std.specs.List.{list_any};
 ghost use Rattle.indexmap.specs.IndexSet.{contains};
 ghost use Rattle.comparison.specs.declared.values.ComparedPair.{ComparedPair as PlainPair};
 ghost use Rattle.compare_report.specs.Groups.{seen};
-ghost use Rattle.compare_report.specs.Kinds.{carriers_of, has_carriers as has_carriers_in, is_carrier, router_place, same_place};
+ghost use Rattle.compare_report.specs.Kinds.{carriers_of, has_carriers as has_carriers_in, is_carrier, router_place};
+ghost use Rattle.compare_base.specs.Same.{same_place};
 
 use crate::kinds::Split;
 use compare_base::Place;

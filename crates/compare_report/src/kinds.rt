@@ -1,52 +1,21 @@
 //! The same kind of difference at several pairs: at which it is, and at which of their places.
 ghost use Rattle.std.specs.Prelude.{◌≡◌, ◌||◌, ◌&&◌, ◌++◌, ℕ, IfOk, OnOk, filter, not};
 ghost use Rattle.std.specs.List.{count_by, list_any};
-ghost use lib.Pointwise.{pointwise};
 ghost use Rattle.indexmap.specs.IndexSet.{contains};
 ghost use Rattle.policy_base.specs.Walks.{is_loop_free as loop_free};
 ghost use Rattle.compare_base.specs.declared.rows.Place.{Place as PlainPlace};
 ghost use Rattle.comparison.specs.declared.values.ComparedPair.{ComparedPair as PlainPair};
 ghost use Rattle.compare_report.specs.Groups.{seen};
-ghost use Rattle.compare_report.specs.Kinds.{example_walks, has_kind as has_kind_in, has_place, is_one, same_kind as same_kind_in, same_place, same_row, same_words as same_words_in, walks_in as walks_of_kinds, with_more_paths};
+ghost use Rattle.compare_report.specs.Kinds.{example_walks, has_kind as has_kind_in, has_place, is_one, same_kind as same_kind_in, walks_in as walks_of_kinds, with_more_paths};
+ghost use Rattle.compare_base.specs.Same.{same_place};
 
-use compare_base::{Kind, Place, Row, Words};
-use comparison::ComparedPair;
+use compare_base::{Kind, Place};
+use comparison::{ComparedPair, same_rows, same_words};
 use indexmap::IndexSet;
 use input_output::NoMemory;
 use net_base::{List, Loc};
 use policy_base::is_loop_free;
 use std::alloc::{AllocError, Global};
-
-// Whether two places differ in the same words.
-fn same_words(one: Words, other: Words) -> bool
-    ensures { result ≡ same_words_in one other }
-{
-    match (one, other) {
-        (
-            Words::Partly {
-                lost,
-                gained,
-                reordered,
-            },
-            Words::Partly {
-                lost: lost_too,
-                gained: gained_too,
-                reordered: reordered_too,
-            },
-        ) => lost == lost_too && (gained == gained_too && reordered == reordered_too),
-        (Words::Unclaimed, Words::Unclaimed) => true,
-        (Words::Claimed, Words::Claimed) => true,
-        (Words::Replaced, Words::Replaced) => true,
-        _ => false,
-    }
-}
-
-// Whether these are the same rows.
-fn same_rows(one: &[Row], other: &[Row]) -> bool
-    ensures { result ≡ pointwise same_row one.now other.now }
-{
-    one == other
-}
 
 // Whether two kinds have the same words and rows.
 fn same_kind(one: &Kind, other: &Kind) -> bool

@@ -8,7 +8,8 @@ ghost use Rattle.compare_base.specs.declared.rows.Place.{Place as PlainPlace};
 ghost use Rattle.compare_report.specs.Groups.{seen};
 ghost use Rattle.compare_lines.specs.Lists.{routers_line};
 ghost use Rattle.compare_lines.specs.Lists.{sessions_of as sessions_in};
-ghost use Rattle.compare_report.specs.Kinds.{have_sessions as have_sessions_in, is_carrier, is_one, is_router_place as is_router_place_in, place_lines, router_place, router_places as router_places_in, same_place, session_place, sessions_line};
+ghost use Rattle.compare_report.specs.Kinds.{have_sessions as have_sessions_in, is_carrier, is_one, is_router_place as is_router_place_in, place_lines, router_place, router_places as router_places_in, session_place, sessions_line};
+ghost use Rattle.compare_base.specs.Same.{same_place};
 
 use crate::carriers::{Carrying, carrier_set};
 use crate::groups::is_originated;

@@ -5,6 +5,8 @@
 //! another. Both can say when a pair has changed (`has_changed`, `specs/Changed`): where the prefix has other origins, or
 //! some place differs. Origins are compared as sets.
 //!
+//! Places that differ by the same words and rows are told together, so when two are the same (`same_words`, `same_rows`) stands here, too.
+//!
 //! A pair that hasn't changed stands in the list all the same, since the text of a comparison tells how many there are.
 //!
 //! Compiling doesn't need it.
@@ -13,7 +15,9 @@
 #![tactic(auto)]
 
 mod changed;
+mod same;
 mod values;
 
 pub use changed::has_changed;
+pub use same::{same_rows, same_words};
 pub use values::{ComparedPair, Comparison};

@@ -10,10 +10,10 @@ use Rattle.run_base.proofs.Told.{told_is}
 use Rattle.refusal_lines.specs.RefusalLines.{refusal_line}
 use Rattle.input_texts.specs.Asked.{SpellFor}
 use Rattle.input_texts.proofs.Spelling.{at_spelled, form_of, of_spelled, one_of_spelled}
-use Rattle.lint_ranks.specs.declared.refusal.LintRefusal.{LintRefusal}
-use Rattle.lint_ranks.specs.declared.refusal.LintRefusal.TheVariants as refusal
-use Rattle.lint_ranks.specs.Limits.{AreAllWithin, compile_refusal}
-use Rattle.lint_ranks.proofs.Within.{not_refused, one_refusal}
+use Rattle.case_graphs.specs.declared.refusal.LimitRefusal.{LimitRefusal}
+use Rattle.case_graphs.specs.declared.refusal.LimitRefusal.TheVariants as refusal
+use Rattle.case_graphs.specs.Limits.{AreAllWithin, compile_refusal}
+use Rattle.case_graphs.proofs.Within.{not_refused, one_refusal}
 use Rattle.policy_lint.proofs.Whole.{one_list}
 use Rattle.judging_jobs.specs.Lines.{lint_text}
 use Rattle.judging_jobs.specs.Linted.{IsRefusedFor, SaysOfPolicy, SaysOfTexts}
@@ -34,10 +34,10 @@ module _ (Refuses Checks : Type 0) (refuses : Refuses) where
 -- ---- one thing is said
 
 -- where the cases are within the limits, nothing is refused
-never_both : (net : PlainNet) (policy : PlainPolicy) (e : LintRefusal) → AreAllWithin net policy → IsRefusedFor net policy e → ⊥
+never_both : (net : PlainNet) (policy : PlainPolicy) (e : LimitRefusal) → AreAllWithin net policy → IsRefusedFor net policy e → ⊥
 never_both net policy e within refused = refused.1 (not_refused net policy e within refused.0)
 
-one_refused : (net : PlainNet) (policy : PlainPolicy) (e f : LintRefusal) → IsRefusedFor net policy e → IsRefusedFor net policy f → e ≡ f
+one_refused : (net : PlainNet) (policy : PlainPolicy) (e f : LimitRefusal) → IsRefusedFor net policy e → IsRefusedFor net policy f → e ≡ f
 one_refused net policy e f a b = elim (one_refusal net policy e f a.0 b.0) [
   | inl none ↦ absurd (a.1 none)
   | inr (inl none) ↦ absurd (b.1 none)
@@ -106,7 +106,7 @@ ends_well policy_text net policy what within (inl h) = status_is _ _ h.2
 ends_well policy_text net policy what within (inr h) = absurd (never_both net policy h.0 within h.1)
 
 -- and else with the refusal that applies
-pub ends_refused : (policy_text : List ℕ) (net : PlainNet) (policy : PlainPolicy) (what : Said) (e : LintRefusal) → IsRefusedFor net policy e → SaysOfPolicy policy_text net policy what
+pub ends_refused : (policy_text : List ℕ) (net : PlainNet) (policy : PlainPolicy) (what : Said) (e : LimitRefusal) → IsRefusedFor net policy e → SaysOfPolicy policy_text net policy what
     → what ≡ line Refused (refusal_line net (compile_refusal e))
 ends_refused policy_text net policy what e refused (inl h) = absurd (never_both net policy e h.1.within refused)
 ends_refused policy_text net policy what e refused (inr h) = h.2 ∙ ap (λ f. line Refused (refusal_line net (compile_refusal f))) (one_refused net policy h.0 e h.1 refused)

@@ -6,9 +6,9 @@ use Rattle.run_base.specs.declared.outcome.Status.TheVariants.{Refused}
 use Rattle.run_base.specs.Said.{Said, text, line}
 use Rattle.input_texts.specs.Texts.{OfTexts}
 use Rattle.refusal_lines.specs.RefusalLines.{refusal_line}
-use Rattle.lint_ranks.specs.declared.refusal.LintRefusal.{LintRefusal}
-use Rattle.lint_ranks.specs.declared.refusal.LintRefusal.TheVariants as refusal
-use Rattle.lint_ranks.specs.Limits.{AreAllWithin, IsRefused, compile_refusal}
+use Rattle.case_graphs.specs.declared.refusal.LimitRefusal.{LimitRefusal}
+use Rattle.case_graphs.specs.declared.refusal.LimitRefusal.TheVariants as refusal
+use Rattle.case_graphs.specs.Limits.{AreAllWithin, IsRefused, compile_refusal}
 use Rattle.policy_lint.specs.declared.finding.Finding.{Finding}
 use Rattle.policy_lint.specs.Findings.{AreFindings}
 use Rattle.judging_jobs.specs.Lines.{lint_text}
@@ -21,12 +21,12 @@ pub record IsLinted (policy_text : List ℕ) (net : PlainNet) (policy : PlainPol
   pub spelled : bytes ≡ lint_text findings
 
 -- The limits refuse the policy for this, which isn't want of memory.
-abbrev pub IsRefusedFor : PlainNet → PlainPolicy → LintRefusal → Type 0
+abbrev pub IsRefusedFor : PlainNet → PlainPolicy → LimitRefusal → Type 0
 IsRefusedFor net policy e = IsRefused net policy e × (e ≢ refusal.NoMemory)
 
 -- the line of such a refusal, as the compiler would write it
 abbrev pub SaysRefusal : PlainNet → PlainPolicy → Said → Type 0
-SaysRefusal net policy what = (e : LintRefusal) × IsRefusedFor net policy e × (what ≡ line Refused (refusal_line net (compile_refusal e)))
+SaysRefusal net policy what = (e : LimitRefusal) × IsRefusedFor net policy e × (what ≡ line Refused (refusal_line net (compile_refusal e)))
 
 -- the lines of the findings, or that
 abbrev pub SaysOfPolicy : List ℕ → PlainNet → PlainPolicy → Said → Type 0

@@ -10,7 +10,7 @@ use crate::lines::lint_text;
 use input_texts::{net_of, policy_for};
 use net_base::Net;
 use policy_base::Policy;
-use policy_lint::{LintRefusal, compile_refusal, lint};
+use policy_lint::{LimitRefusal, compile_refusal, lint};
 use refusal_lines::refusal_line;
 use run_base::{Status, Stop};
 use std::alloc::Global;
@@ -23,7 +23,7 @@ fn policy_text(alloc: Global, text: &[u8], net: &Net, policy: &Policy) -> Result
 {
     match lint(alloc, text, net, policy) {
         Ok(findings) => Ok(lint_text(alloc, &findings)?),
-        Err(LintRefusal::NoMemory) => Err(Stop::NoMemory),
+        Err(LimitRefusal::NoMemory) => Err(Stop::NoMemory),
         Err(refusal) => {
             let line = refusal_line(alloc, net, &compile_refusal(refusal))?;
             Err(Stop::Line(Status::Refused, line))

@@ -1,4 +1,3 @@
 pub mod Marked
 pub mod NodeRanks
 pub mod Placed
-pub mod Within

@@ -9,7 +9,7 @@
 //! the ranks of a policy are spoken of. To ask it of paths without loops would be a search over all of them.
 //!
 //! The limits are asked and no more: neither that sources have paths nor that numbers exist. So a policy that `compile`
-//! refuses for these can be linted, and a limit may refuse a later case than the one that `compile` refuses. `LintRefusal`
+//! refuses for these can be linted, and a limit may refuse a later case than the one that `compile` refuses. `LimitRefusal`
 //! has these three limits and want of memory alone; `compile_refusal` says it as a refusal of the compiler, with the same
 //! line.
 //!
@@ -21,11 +21,6 @@
 mod laws;
 mod marks;
 mod ranks;
-mod refusal;
 
-pub use laws::{
-    cases_within_limits_are_not_refused, ranks_of_nodes_are_those_of_walks,
-    refusals_for_limits_exclude_one_another,
-};
+pub use laws::ranks_of_nodes_are_those_of_walks;
 pub use ranks::reached_ranks;
-pub use refusal::{LintRefusal, compile_refusal};

@@ -1,47 +1,21 @@
 //! The cases one after the other, with the ranks that their walks have.
-ghost use Rattle.std.specs.Prelude.{◌≡◌, ◌+◌, ◌<◌, ◌≤◌, ◌^◌, IfErr, IfOk, OnOk, length};
+ghost use Rattle.std.specs.Prelude.{◌≡◌, ◌+◌, ◌<◌, ◌^◌, IfErr, IfOk, OnOk, length};
 ghost use Rattle.policy_base.specs.declared.limits.TheConstants.{ALTERNATIVES};
 ghost use Rattle.policy_base.specs.Cases.{case_list};
 ghost use Rattle.policy_base.specs.Policies.{policy_of};
-ghost use Rattle.policy_base.specs.CaseNumbers.{OfCase, OriginsAreRouters};
-ghost use Rattle.case_core.specs.Automata.{AllFit};
-ghost use Rattle.case_core.specs.Refusals.{IsCause, IsGraphOf};
-ghost use Rattle.lint_ranks.specs.Limits.{AreAllWithin, IsRefused, compile_refusal as refusal_of};
+ghost use Rattle.policy_base.specs.CaseNumbers.{OriginsAreRouters};
+ghost use Rattle.case_graphs.specs.Limits.{AreAllWithin, IsRefused};
 ghost use Rattle.lint_ranks.specs.Marks.{AreReached};
 
 use crate::marks::mark_ranks;
-use crate::refusal::{LintRefusal, lint_refusal};
 use bit_rows::Rows;
-use case_core::{CaseGraph, KeptAutomata, graph_within_limits};
+use case_core::KeptAutomata;
+use case_graphs::{LimitRefusal, case_within};
 use evidence_law::limits::STEPS;
 use net_base::{Net, known_net};
 use policy_base::limits::ALTERNATIVES;
 use policy_base::{CaseList, Policy};
 use std::alloc::Global;
-
-// The graph of a case, or which limit the case passes.
-fn case_within(
-    alloc: Global,
-    net: &Net,
-    policy: &Policy,
-    cases: &CaseList,
-    number: u32,
-    room: u32,
-    kept: &mut KeptAutomata,
-) -> Result<CaseGraph, LintRefusal>
-    requires cases { cases.now.cases ≡ case_list net.now (policy_of policy.now) }
-    requires from_one { 1 ≤ number }
-    requires within { number ≤ length cases.now.cases }
-    requires kept { AllFit net.now (policy_of policy.now) kept.old }
-    ensures graph { IfOk result (λ given. OfCase net.now (policy_of policy.now) number (λ s c. IsGraphOf net.now room s c given)) }
-    ensures kept { AllFit net.now (policy_of policy.now) kept.new }
-    ensures refused { IfErr result (λ e. OfCase net.now (policy_of policy.now) number (λ s c. IsCause net.now number room s c (refusal_of e))) }
-{
-    match graph_within_limits(alloc, net, policy, cases, number, room, kept) {
-        Ok(given) => Ok(given),
-        Err(refusal) => Err(lint_refusal(&refusal)),
-    }
-}
 
 // The cases take of one room in turn, as they do for the compiler: its loop keeps graphs and numbers, this one ranks alone.
 /// For each statement, by its number from 1, the ranks that permitted walks of its cases have, as the bits of a row; or which
@@ -51,7 +25,7 @@ pub fn reached_ranks(
     net: &Net,
     policy: &Policy,
     cases: &CaseList,
-) -> Result<Rows, LintRefusal>
+) -> Result<Rows, LimitRefusal>
     requires cases { cases.now.cases ≡ case_list net.now (policy_of policy.now) }
     requires few { length cases.now.cases < 2 ^ 32 }
     requires routers { OriginsAreRouters net.now policy.now.origins }

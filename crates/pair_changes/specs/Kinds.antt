@@ -9,21 +9,14 @@ use Rattle.compare_base.specs.declared.rows.Place.{Place}
 use Rattle.compare_base.specs.declared.rows.Row.{Row}
 use Rattle.compare_base.specs.declared.rows.Words.{Words}
 use Rattle.compare_base.specs.declared.rows.Words.TheVariants.{Partly, Unclaimed, Claimed, Replaced}
-use Rattle.place_rows.specs.Noted.{same_row}
 use Rattle.row_words.specs.WordsOfRows.{shown_rows, words_of}
 use Rattle.pair_changes.specs.declared.ways.Way.{Way}
 use Rattle.pair_changes.specs.Changes.{ComesBefore}
+use Rattle.compare_base.specs.Same.{same_row, same_words}
 
 -- how a place with these rows differs, if it does
 abbrev pub way_by : List Row → Option Way
 way_by rows = option_map (λ words. record { words = words; rows = shown_rows rows }) (words_of rows)
-
-abbrev pub same_words : Words → Words → Bool
-same_words (Partly lost gained reordered) (Partly lost' gained' reordered') = beq lost lost' && (beq gained gained' && beq reordered reordered')
-same_words Unclaimed Unclaimed = true
-same_words Claimed Claimed = true
-same_words Replaced Replaced = true
-same_words _ _ = false
 
 -- the kind is of places that differ so
 abbrev pub is_of : Way → Kind → Bool

@@ -1,53 +1,21 @@
 //! Places that differ alike.
 ghost use Rattle.std.specs.Prelude.{◌≡◌, ◌++◌, ◌∷◌, [], IfOk, List as Items, OnOk, Option, Some};
 ghost use Rattle.std.specs.List.{position};
-ghost use lib.Pointwise.{pointwise};
 ghost use Rattle.list_law.specs.Members.{IsIn};
 ghost use Rattle.compare_base.specs.declared.rows.Place.{Place as PlainPlace};
 ghost use Rattle.pair_rows.specs.Meetings.{rows_alone};
-ghost use Rattle.place_rows.specs.Noted.{same_row};
 ghost use Rattle.place_rows.specs.Rows.{rows_of};
 ghost use Rattle.pair_changes.specs.declared.ways.Way.{Way as PlainWay};
 ghost use Rattle.pair_changes.specs.Changes.{AreInOrder, ComesFirst};
-ghost use Rattle.pair_changes.specs.Kinds.{AreKinds, is_of as is_kind_of, same_words as same_words_of, way_by};
+ghost use Rattle.pair_changes.specs.Kinds.{AreKinds, is_of as is_kind_of, way_by};
 
 use crate::ways::Way;
-use compare_base::{Kind, Place, Row, Words};
+use compare_base::{Kind, Place};
+use comparison::{same_rows, same_words};
 use input_output::NoMemory;
 use net_base::List;
 use place_rows::PlaceRows;
 use std::alloc::{AllocError, Global};
-
-// Whether two places differ in the same words.
-fn same_words(one: Words, other: Words) -> bool
-    ensures { result ≡ same_words_of one other }
-{
-    match (one, other) {
-        (
-            Words::Partly {
-                lost,
-                gained,
-                reordered,
-            },
-            Words::Partly {
-                lost: lost_too,
-                gained: gained_too,
-                reordered: reordered_too,
-            },
-        ) => lost == lost_too && (gained == gained_too && reordered == reordered_too),
-        (Words::Unclaimed, Words::Unclaimed) => true,
-        (Words::Claimed, Words::Claimed) => true,
-        (Words::Replaced, Words::Replaced) => true,
-        _ => false,
-    }
-}
-
-// Whether these are the same rows.
-fn same_rows(one: &[Row], other: &[Row]) -> bool
-    ensures { result ≡ pointwise same_row one.now other.now }
-{
-    one == other
-}
 
 // Whether a kind is of places that differ so.
 fn is_of(way: &Way, kind: &Kind) -> bool

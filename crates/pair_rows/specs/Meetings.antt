@@ -10,6 +10,7 @@ use Rattle.compare_base.specs.declared.rows.Place.{Place}
 use Rattle.compare_base.specs.declared.rows.Row.{Row}
 use Rattle.pair_rows.specs.declared.values.Met.{Met}
 use Rattle.pair_rows.specs.declared.values.FirstRow.{FirstRow}
+use Rattle.compare_base.specs.Same.{same_place}
 
 -- ---- rows that are met
 
@@ -42,9 +43,6 @@ abbrev pub all_mets : PlainGraph → PlainGraph → List NodePair → PlainGraph
 all_mets g h pairs both = node_mets g h pairs 0 ++ flat_map (step_mets g h pairs) both.steps
 
 -- ---- at a place
-
-abbrev pub same_place : Place → Place → Bool
-same_place a b = a.router == b.router && option_eq nat_eq a.peer b.peer
 
 -- what is met at the place
 abbrev pub is_at : Place → Met → Bool

@@ -12,8 +12,8 @@ use Rattle.pair_rows.specs.declared.values.FirstRow.{FirstRow}
 use Rattle.pair_rows.specs.declared.values.Met.{Met}
 use Rattle.pair_rows.specs.Meetings.{AreFirst, earlier}
 use Rattle.pair_rows.proofs.NotedRows.{first_inserted, first_lowered}
-use Rattle.place_rows.specs.Noted.{same_row}
 use Rattle.place_rows.proofs.Order.{later, row_is}
+use Rattle.compare_base.specs.Same.{same_row}
 
 -- ---- the first item that passes a test
 

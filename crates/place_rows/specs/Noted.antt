@@ -6,10 +6,8 @@ use Rattle.compare_base.specs.declared.rows.Place.{Place}
 use Rattle.compare_base.specs.declared.rows.Row.{Row}
 use Rattle.pair_rows.specs.declared.values.FirstRow.{FirstRow}
 use Rattle.pair_rows.specs.declared.values.Met.{Met}
-use Rattle.pair_rows.specs.Meetings.{AreFirst, mets_at, same_place}
-
-abbrev pub same_row : Row → Row → Bool
-same_row a b = option_eq nat_eq a.old b.old && option_eq nat_eq a.new b.new
+use Rattle.pair_rows.specs.Meetings.{AreFirst, mets_at}
+use Rattle.compare_base.specs.Same.{same_place}
 
 -- the rows of a place, where each place has its own; a place that isn't there has none
 abbrev pub rows_for : List Place → List (Vec FirstRow Global) → Place → List FirstRow

@@ -13,9 +13,9 @@ use Rattle.policy_base.specs.Policies.{PlainPolicy, PlainStatement}
 use Rattle.policy_tokens.specs.declared.token.Token.{Token}
 use Rattle.policy_tokens.specs.Tokens.{tokens_of}
 use Rattle.bit_rows.specs.Tables.{PlainRows, has_at}
-use Rattle.lint_ranks.specs.Limits.{AreAllWithin}
+use Rattle.case_graphs.specs.Limits.{AreAllWithin}
 use Rattle.lint_ranks.specs.Marks.{AreReached}
-use Rattle.lint_ranks.proofs.Within.{few_alternatives}
+use Rattle.case_graphs.proofs.Within.{few_alternatives}
 use Rattle.lint_cover.specs.Statements.{AreMarked}
 use Rattle.policy_lint.specs.declared.finding.Finding.{Finding}
 use Rattle.policy_lint.specs.declared.finding.Finding.TheVariants.{UnusedGroup, Covered, Idle, Unreached}

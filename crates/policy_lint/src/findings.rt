@@ -4,7 +4,7 @@ ghost use Rattle.policy_base.specs.Policies.{policy_of};
 ghost use Rattle.policy_tokens.specs.declared.token.Token.{Token as PlainToken};
 ghost use Rattle.policy_tokens.specs.Tokens.{tokens_of};
 ghost use Rattle.policy_parser.specs.Spelled.{spelled};
-ghost use Rattle.lint_ranks.specs.Limits.{AreAllWithin, IsRefused};
+ghost use Rattle.case_graphs.specs.Limits.{AreAllWithin, IsRefused};
 ghost use Rattle.policy_lint.specs.Findings.{AreFindings};
 
 use crate::finding::Finding;
@@ -12,7 +12,8 @@ use crate::groups::push_unused;
 use crate::statements::{push_covered, push_idle, push_unreached, statements_with_cases};
 use input_output::NoMemory;
 use lint_cover::covered_statements;
-use lint_ranks::{LintRefusal, reached_ranks};
+use case_graphs::LimitRefusal;
+use lint_ranks::reached_ranks;
 use net_base::{Net, known_net};
 use policy_base::{Policy, cases, known_policy};
 use policy_tokens::{PolicyFault, Token, tokens};
@@ -41,7 +42,7 @@ pub fn lint(
     bytes: &[u8],
     net: &Net,
     policy: &Policy,
-) -> Result<Vec<Finding>, LintRefusal>
+) -> Result<Vec<Finding>, LimitRefusal>
     requires spelled { spelled net.now bytes.now ≡ Ok (policy_of policy.now) }
     requires short { length bytes.now < 4294967295 }
     ensures found { IfOk result (λ findings. AreFindings bytes.now net.now (policy_of policy.now) findings.items) }

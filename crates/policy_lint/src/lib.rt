@@ -28,4 +28,4 @@ pub use finding::Finding;
 pub use findings::lint;
 pub use laws::one_list_of_findings_is_told;
 pub use lint_cover::covered_by;
-pub use lint_ranks::{LintRefusal, compile_refusal};
+pub use case_graphs::{LimitRefusal, compile_refusal};

@@ -10,7 +10,7 @@ use Rattle.net_base.specs.Sets.{same_set}
 use Rattle.compare_base.specs.declared.cases.PrefixCase.{PrefixCase}
 use Rattle.compare_base.specs.declared.cases.CasePair.{CasePair}
 use Rattle.evidence_law.proofs.CaseLists.{set_is}
-use Rattle.policy_pairs.specs.Pairs.{same_case, same_cases}
+use Rattle.compare_base.specs.Same.{same_case, same_cases}
 
 sets_are : (a b : Option LocSet) → option_eq same_set a b ≡ true → a ≡ b
 sets_are None None same = refl

@@ -18,14 +18,9 @@ use Rattle.compare_base.specs.declared.pairs.Pair.{Pair}
 use Rattle.compare_base.specs.declared.pairs.PairPrefixes.{PairPrefixes}
 use Rattle.compare_base.specs.declared.pairs.PairPrefixes.TheVariants.{Originated, Others}
 use Rattle.compare_base.specs.Cases.{is_originated, pair_for, says_something}
+use Rattle.compare_base.specs.Same.{same_cases}
 
 -- ---- prefixes
-
-abbrev pub same_case : PrefixCase → PrefixCase → Bool
-same_case a b = option_eq nat_eq a.statement b.statement && option_eq same_set a.origins b.origins
-
-abbrev pub same_cases : CasePair → CasePair → Bool
-same_cases a b = same_case a.old b.old && same_case a.new b.new
 
 -- the prefix has these cases
 abbrev pub has_cases : PlainPolicy → PlainPolicy → CasePair → PlainPrefix → Bool

@@ -5,7 +5,7 @@ ghost use Rattle.net_base.specs.Prefixes.{PlainPrefix};
 ghost use Rattle.policy_base.specs.Policies.{PlainPolicy};
 ghost use Rattle.compare_base.specs.Cases.{pair_for};
 ghost use Rattle.policy_pairs.specs.Groups.{AreGroups, AreKinds, TellBoth, group_for};
-ghost use Rattle.policy_pairs.specs.Pairs.{same_cases};
+ghost use Rattle.compare_base.specs.Same.{same_cases};
 
 use crate::asked::BothTold;
 use compare_base::CasePair;

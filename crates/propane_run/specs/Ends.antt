@@ -4,8 +4,8 @@ use Rattle.net_base.specs.Network.{PlainNet}
 use Rattle.policy_base.specs.Policies.{PlainPolicy}
 use Rattle.judging_jobs.specs.Asked.{Audited}
 use Rattle.case_core.specs.declared.refusal.CompileRefusal.{CompileRefusal}
-use Rattle.lint_ranks.specs.Limits.{AreAllWithin, compile_refusal}
-use Rattle.lint_ranks.specs.declared.refusal.LintRefusal.{LintRefusal}
+use Rattle.case_graphs.specs.Limits.{AreAllWithin, compile_refusal}
+use Rattle.case_graphs.specs.declared.refusal.LimitRefusal.{LimitRefusal}
 use Rattle.compile_jobs.specs.Compiled.{IsCompiled, IsRefusedFor}
 use Rattle.config_base.specs.Configs.{PlainConfig}
 use Rattle.evidence_base.specs.Made.{PlainCaseEvidence}
@@ -73,7 +73,7 @@ module _ (holds : Holds) (words : List (List ℕ)) (Succeeds Fails : Type 0) (Re
       (passes → stable → Succeeds) × (¬ (passes × stable) → Fails)
   EndsRight Migrate = (config : PlainConfig) → AsksOfOld holds words config → Succeeds
   EndsRight Lint = (net : PlainNet) (policy : PlainPolicy) → AsksFor holds words Lint net policy
-      → (AreAllWithin net policy → Succeeds) × ((e : LintRefusal) → IsPastLimit net policy e → Refuses (refusal_line net (compile_refusal e)))
+      → (AreAllWithin net policy → Succeeds) × ((e : LimitRefusal) → IsPastLimit net policy e → Refuses (refusal_line net (compile_refusal e)))
   EndsRight RouteMap = (net : PlainNet) (policy : PlainPolicy) → AsksFor holds words RouteMap net policy
       → (IsFree net policy → ((config : PlainConfig) (evidence : List PlainCaseEvidence) → IsCompiled net policy config evidence → AreFew config) → Succeeds)
       × ((e : CompileRefusal) → IsRefusedFor net policy e → Refuses (refusal_line net e))

@@ -2,8 +2,8 @@
 use Rattle.std.specs.Prelude.{ℕ, List, Option}
 use Rattle.net_base.specs.Network.{PlainNet}
 use Rattle.policy_base.specs.Policies.{PlainPolicy}
-use Rattle.lint_ranks.specs.Limits.{compile_refusal}
-use Rattle.lint_ranks.specs.declared.refusal.LintRefusal.{LintRefusal}
+use Rattle.case_graphs.specs.Limits.{compile_refusal}
+use Rattle.case_graphs.specs.declared.refusal.LimitRefusal.{LimitRefusal}
 use Rattle.judging_jobs.specs.Linted.{IsLinted, IsRefusedFor}
 use Rattle.refusal_lines.specs.RefusalLines.{refusal_line}
 use Rattle.run_base.specs.Reading.{Holds}
@@ -25,6 +25,6 @@ pub record TellsLimit {E : Type 0} (holds : Holds) (taken : E → Option (List �
   pub net : PlainNet
   pub policy : PlainPolicy
   pub asked : AsksFor holds words Lint net policy
-  pub refusal : LintRefusal
+  pub refusal : LimitRefusal
   pub refused : IsRefusedFor net policy refusal
   pub written : Whole taken (refusal_line net (compile_refusal refusal)) err err'

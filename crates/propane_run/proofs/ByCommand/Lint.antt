@@ -3,8 +3,8 @@ use Rattle.std.proofs.Common.{◌≡◌, ◌⊎◌, ℕ, List, Option, inl, inr}
 use Rattle.net_base.specs.Network.{PlainNet}
 use Rattle.input_output.specs.Outside.{Rose}
 use Rattle.policy_base.specs.Policies.{PlainPolicy}
-use Rattle.lint_ranks.specs.Limits.{AreAllWithin, compile_refusal}
-use Rattle.lint_ranks.specs.declared.refusal.LintRefusal.{LintRefusal}
+use Rattle.case_graphs.specs.Limits.{AreAllWithin, compile_refusal}
+use Rattle.case_graphs.specs.declared.refusal.LimitRefusal.{LimitRefusal}
 use Rattle.judging_jobs.specs.Linted.{IsRefusedFor, SaysOfPolicy}
 use Rattle.judging_jobs.proofs.LintLaws.{ends_refused, ends_well, said_for, told_says}
 use Rattle.refusal_lines.specs.RefusalLines.{refusal_line}
@@ -68,13 +68,13 @@ module _ (holds : Holds) (words : List (List ℕ)) where
     linted_where within calm (inl m) = inl m
     linted_where within calm (inr w) = inr (done_by calm within w.0 (told w.0 w.1) w.2)
 
-    refused_by : (e : LintRefusal) → (Rose (ef err) (ef err') → ⊥) → IsRefusedFor net policy e → (wanted : Said) → SaysOfPolicy asks.policy_text net policy wanted
+    refused_by : (e : LimitRefusal) → (Rose (ef err) (ef err') → ⊥) → IsRefusedFor net policy e → (wanted : Said) → SaysOfPolicy asks.policy_text net policy wanted
         → Delivered ot of et ef wanted out out' err err' ended → (ended ≡ Refused) × Whole et (refusal_line net (compile_refusal e)) err err' × (out' ≡ out)
     refused_by e calm applies wanted says sent =
         let is = ends_refused asks.policy_text net policy wanted e applies says in
         line_sent ot of et ef out out' err err' ended Refused (refusal_line net (compile_refusal e)) calm (rw is at sent)
 
-    pub limited_where : (e : LintRefusal) → (Rose (ef err) (ef err') → ⊥) → IsRefusedFor net policy e
+    pub limited_where : (e : LimitRefusal) → (Rose (ef err) (ef err') → ⊥) → IsRefusedFor net policy e
         → Gives ot of et ef out out' err err' ended (SaidOfTold holds (names_read words c) (Job c))
         → (ended ≡ NoMemory) ⊎ (ended ≡ Refused) × Whole et (refusal_line net (compile_refusal e)) err err' × (out' ≡ out)
     limited_where e calm applies (inl m) = inl m

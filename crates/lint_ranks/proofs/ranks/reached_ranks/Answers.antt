@@ -11,7 +11,7 @@ use Rattle.bit_rows.specs.Tables.{has_at}
 use Rattle.lint_ranks.specs.Marks.{some_has_rank}
 use Rattle.lint_ranks.proofs.Marked.{reached_all, reached_more}
 use Rattle.lint_ranks.proofs.Placed.{placed, ranks_are, ranks_below}
-use Rattle.lint_ranks.proofs.Within.{built_at, gone_more, refused_next, there}
+use Rattle.case_graphs.proofs.Within.{built_at, gone_more, refused_next, there}
 use Rattle.lint_ranks.proofs.ranks.reached_ranks.Goals as goal
 
 pub returns-in_err-given-clause-refused : goal.returns-in_err-given-clause-refused

@@ -3,7 +3,7 @@ use Rattle.policy_base.specs.declared.limits.TheConstants.{ALTERNATIVES}
 use Rattle.policy_base.specs.Policies.{policy_of}
 use Rattle.case_core.specs.Automata.{AllFit}
 use Rattle.lint_ranks.proofs.Marked.{AreReachedTo}
-use Rattle.lint_ranks.proofs.Within.{AreGone}
+use Rattle.case_graphs.proofs.Within.{AreGone}
 use Rattle.lint_ranks.proofs.ranks.reached_ranks.Given as goal
 
 abbrev pub invariant-loop-place : goal.invariant-loop-place

@@ -9,7 +9,7 @@ use Rattle.policy_base.specs.declared.limits.TheConstants.{ALTERNATIVES}
 use Rattle.net_base.specs.Network.{PlainNet}
 use Rattle.policy_base.specs.Cases.{case_list}
 use Rattle.policy_base.specs.Meaning.{alternative_count}
-use Rattle.lint_ranks.specs.Limits.{AreAllWithin}
+use Rattle.case_graphs.specs.Limits.{AreAllWithin}
 use Rattle.policy_lint.specs.Told.{marked, told_covered, told_from, told_idle}
 use Rattle.policy_lint.proofs.Idles.{has_case}
 use Rattle.std.proofs.lemmas.List.{length-map}

@@ -10,11 +10,11 @@ use Rattle.policy_base.specs.CaseNumbers.{OfCase}
 use Rattle.case_core.specs.declared.refusal.CompileRefusal.{CompileRefusal}
 use Rattle.case_core.specs.declared.refusal.CompileRefusal.TheVariants as compile
 use Rattle.case_core.specs.Refusals.{IsCause}
-use Rattle.lint_ranks.specs.declared.refusal.LintRefusal.{LintRefusal}
-use Rattle.lint_ranks.specs.declared.refusal.LintRefusal.TheVariants.{TooManyRanks, TooManyStates, TooManySteps, NoMemory}
+use Rattle.case_graphs.specs.declared.refusal.LimitRefusal.{LimitRefusal}
+use Rattle.case_graphs.specs.declared.refusal.LimitRefusal.TheVariants.{TooManyRanks, TooManyStates, TooManySteps, NoMemory}
 
 -- the refusal as one of the compiler
-abbrev pub compile_refusal : LintRefusal → CompileRefusal
+abbrev pub compile_refusal : LimitRefusal → CompileRefusal
 compile_refusal (TooManyRanks k count) = compile.TooManyRanks k count
 compile_refusal (TooManyStates k) = compile.TooManyStates k
 compile_refusal (TooManySteps k) = compile.TooManySteps k
@@ -40,7 +40,7 @@ AreAllWithin net policy = (graphs : List PlainGraph) × AreWithin net policy gra
 
 -- The cases before are within the limits, and the next one isn't: the compiler would refuse it for this, with the room that they
 -- leave. Whether the sources of earlier cases have paths, or numbers, isn't asked. Want of memory says nothing.
-abbrev pub IsRefused : PlainNet → PlainPolicy → LintRefusal → Type 0
+abbrev pub IsRefused : PlainNet → PlainPolicy → LimitRefusal → Type 0
 IsRefused net policy NoMemory = Unit {0}
 IsRefused net policy e =
     (graphs : List PlainGraph) × AreWithin net policy graphs × (length graphs < length (case_list net policy))

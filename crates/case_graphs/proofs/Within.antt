@@ -24,9 +24,9 @@ use Rattle.case_core.specs.declared.refusal.CompileRefusal.TheVariants as compil
 use Rattle.case_core.specs.Refusals.{IsCause, IsGraphOf}
 use Rattle.case_core.proofs.OneCause.{few_states, few_steps, one_cause}
 use Rattle.case_core.proofs.Places.{of_case}
-use Rattle.lint_ranks.specs.declared.refusal.LintRefusal.{LintRefusal}
-use Rattle.lint_ranks.specs.declared.refusal.LintRefusal.TheVariants.{TooManyRanks, TooManyStates, TooManySteps, NoMemory}
-use Rattle.lint_ranks.specs.Limits.{AreAllWithin, AreWithin, AreWithinFrom, IsRefused, compile_refusal, steps_left}
+use Rattle.case_graphs.specs.declared.refusal.LimitRefusal.{LimitRefusal}
+use Rattle.case_graphs.specs.declared.refusal.LimitRefusal.TheVariants.{TooManyRanks, TooManyStates, TooManySteps, NoMemory}
+use Rattle.case_graphs.specs.Limits.{AreAllWithin, AreWithin, AreWithinFrom, IsRefused, compile_refusal, steps_left}
 
 abbrev steps_of : List PlainGraph → ℕ
 steps_of graphs = sum_by (λ (g : PlainGraph). length g.steps) graphs
@@ -80,14 +80,14 @@ module _ (net : PlainNet) (policy : PlainPolicy) where
       }
 
   -- what refuses the next case refuses the policy
-  refusal_of : (before : List PlainGraph) (e : LintRefusal) → AreWithin net policy before → length before < length (case_list net policy)
+  refusal_of : (before : List PlainGraph) (e : LimitRefusal) → AreWithin net policy before → length before < length (case_list net policy)
       → OfCase net policy (length before + 1) (λ s c. IsCause net (length before + 1) (steps_left before) s c (compile_refusal e)) → IsRefused net policy e
   refusal_of before (TooManyRanks k count) each within cause = (before, each, within, cause)
   refusal_of before (TooManyStates k) each within cause = (before, each, within, cause)
   refusal_of before (TooManySteps k) each within cause = (before, each, within, cause)
   refusal_of before NoMemory each within cause = tt
 
-  pub refused_next : (k room : ℕ) (e : LintRefusal) → AreGone net policy k room → k < length (case_list net policy)
+  pub refused_next : (k room : ℕ) (e : LimitRefusal) → AreGone net policy k room → k < length (case_list net policy)
       → OfCase net policy (k + 1) (λ s c. IsCause net (k + 1) room s c (compile_refusal e)) → IsRefused net policy e
   refused_next k room e before within cause =
       refusal_of before.graphs e before.each (omega (arith, within, before.count))
@@ -140,13 +140,13 @@ module _ (net : PlainNet) (policy : PlainPolicy) where
       behind (k + 1) (room - length b.steps) number left before later g each.1 (omega (arith, at)) (omega (arith, rest, sum_by-cons (λ (x : PlainGraph). length x.steps) b before))
 
   -- a case within the limits isn't refused for them
-  not_past : (number room : ℕ) (s : PlainStatement) (c : Case) (g : PlainGraph) (e : LintRefusal) → IsBuiltWithin net room s c g → IsCause net number room s c (compile_refusal e) → e ≡ NoMemory
+  not_past : (number room : ℕ) (s : PlainStatement) (c : Case) (g : PlainGraph) (e : LimitRefusal) → IsBuiltWithin net room s c g → IsCause net number room s c (compile_refusal e) → e ≡ NoMemory
   not_past number room s c g (TooManyRanks k count) is h = absurd (omega (arith, is.ranks, h.1))
   not_past number room s c g (TooManyStates k) is h = absurd (few_states net number room s c g is h.2)
   not_past number room s c g (TooManySteps k) is h = absurd (few_steps net number room s c g is h.2)
   not_past number room s c g NoMemory is h = refl
 
-  refused_behind : (before rest more : List PlainGraph) (e : LintRefusal) → more ≡ before ++ rest → length before < length more
+  refused_behind : (before rest more : List PlainGraph) (e : LimitRefusal) → more ≡ before ++ rest → length before < length more
       → length before < length (case_list net policy) → AreWithin net policy more
       → OfCase net policy (length before + 1) (λ s c. IsCause net (length before + 1) (steps_left before) s c (compile_refusal e)) → e ≡ NoMemory
   refused_behind before [] more e is fewer within each cause = absurd (omega (arith, fewer, ap length (is ∙ append-nil before)))
@@ -156,7 +156,7 @@ module _ (net : PlainNet) (policy : PlainPolicy) where
       not_past (length before + 1) (steps_left before) case.0 case.1 g e (built case.0 case.1 case.2) (cause case.0 case.1 case.2)
 
   -- where more cases are within the limits than before a refusal, this is for want of memory
-  not_refused_before : (before more : List PlainGraph) (e : LintRefusal) → AreWithin net policy before → AreWithin net policy more → length before < length more
+  not_refused_before : (before more : List PlainGraph) (e : LimitRefusal) → AreWithin net policy before → AreWithin net policy more → length before < length more
       → length more ≤ length (case_list net policy) → OfCase net policy (length before + 1) (λ s c. IsCause net (length before + 1) (steps_left before) s c (compile_refusal e)) → e ≡ NoMemory
   not_refused_before before more e a b fewer within cause =
       let front = agree 0 all_steps before more a b (omega (arith, fewer)) (omega (arith, fewer, within)) in
@@ -172,26 +172,26 @@ module _ (net : PlainNet) (policy : PlainPolicy) where
       nothing_more some front.0 more front.1 long
 
   -- the cases before are within the limits, and the next one is refused
-  record IsOfCase (e : LintRefusal) : Type 0 where
+  record IsOfCase (e : LimitRefusal) : Type 0 where
     before : List PlainGraph
     each : AreWithin net policy before
     within : length before < length (case_list net policy)
     cause : OfCase net policy (length before + 1) (λ s c. IsCause net (length before + 1) (steps_left before) s c (compile_refusal e))
 
-  kinds : (e : LintRefusal) → IsRefused net policy e → (e ≡ NoMemory) ⊎ IsOfCase e
+  kinds : (e : LimitRefusal) → IsRefused net policy e → (e ≡ NoMemory) ⊎ IsOfCase e
   kinds NoMemory h = inl refl
   kinds (TooManyRanks k n) h = inr (record { before = h.0; each = h.1; within = h.2; cause = h.3 })
   kinds (TooManyStates k) h = inr (record { before = h.0; each = h.1; within = h.2; cause = h.3 })
   kinds (TooManySteps k) h = inr (record { before = h.0; each = h.1; within = h.2; cause = h.3 })
 
-  pub not_refused : (e : LintRefusal) → AreAllWithin net policy → IsRefused net policy e → e ≡ NoMemory
+  pub not_refused : (e : LimitRefusal) → AreAllWithin net policy → IsRefused net policy e → e ≡ NoMemory
   not_refused e all h = elim (kinds e h) [
     | inl none ↦ none
     | inr of ↦ not_refused_before of.before all.0 e of.each all.1 (omega (arith, of.within, all.2)) (omega (arith, all.2)) of.cause
   ]
 
   -- as refusals of the compiler they are as many
-  same_refusal : (e f : LintRefusal) → compile_refusal e ≡ compile_refusal f → e ≡ f
+  same_refusal : (e f : LimitRefusal) → compile_refusal e ≡ compile_refusal f → e ≡ f
   same_refusal (TooManyRanks k n) (TooManyRanks j m) h = cc
   same_refusal (TooManyRanks k n) (TooManyStates j) h = absurd cc
   same_refusal (TooManyRanks k n) (TooManySteps j) h = absurd cc
@@ -209,14 +209,14 @@ module _ (net : PlainNet) (policy : PlainPolicy) where
   same_refusal NoMemory (TooManySteps j) h = absurd cc
   same_refusal NoMemory NoMemory h = refl
 
-  as_limits : (e f : LintRefusal)
+  as_limits : (e f : LimitRefusal)
       → (compile_refusal e ≡ compile.NoMemory) ⊎ (compile_refusal f ≡ compile.NoMemory) ⊎ (compile_refusal e ≡ compile_refusal f)
       → (e ≡ NoMemory) ⊎ (f ≡ NoMemory) ⊎ (e ≡ f)
   as_limits e f (inl h) = inl (same_refusal e NoMemory h)
   as_limits e f (inr (inl h)) = inr (inl (same_refusal f NoMemory h))
   as_limits e f (inr (inr h)) = inr (inr (same_refusal e f h))
 
-  both_cases : (e f : LintRefusal) → IsOfCase e → IsOfCase f → (e ≡ NoMemory) ⊎ (f ≡ NoMemory) ⊎ (e ≡ f)
+  both_cases : (e f : LimitRefusal) → IsOfCase e → IsOfCase f → (e ≡ NoMemory) ⊎ (f ≡ NoMemory) ⊎ (e ≡ f)
   both_cases e f a b = elim (cases_order (length a.before) (length b.before)) [
     | inr (inl less) ↦ inl (not_refused_before a.before b.before e a.each b.each less (omega (arith, b.within)) a.cause)
     | inl long ↦
@@ -228,7 +228,7 @@ module _ (net : PlainNet) (policy : PlainPolicy) where
     | inr (inr more) ↦ inr (inl (not_refused_before b.before a.before f b.each a.each more (omega (arith, a.within)) b.cause))
   ]
 
-  pub one_refusal : (e f : LintRefusal) → IsRefused net policy e → IsRefused net policy f → (e ≡ NoMemory) ⊎ (f ≡ NoMemory) ⊎ (e ≡ f)
+  pub one_refusal : (e f : LimitRefusal) → IsRefused net policy e → IsRefused net policy f → (e ≡ NoMemory) ⊎ (f ≡ NoMemory) ⊎ (e ≡ f)
   one_refusal e f a b = elim (kinds e a) [
     | inl none ↦ inl none
     | inr of ↦ elim (kinds f b) [

@@ -1,5 +1,0 @@
-use Rattle.lint_ranks.proofs.Within.{not_refused}
-use Rattle.lint_ranks.proofs.laws.cases_within_limits_are_not_refused.Goals as goal
-
-pub returns : goal.returns
-returns c = not_refused
