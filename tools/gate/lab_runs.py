@@ -75,7 +75,7 @@ Run = Union[Right, Watched, Rolled, Wrong]
 
 # The longest first, so that none of them is left over at the end.
 RUNS: list[Run] = [
-    Rolled("rollout-eight-routers", "data-centre", "half", "changed", ("no-failure", "l2-s1-cut", "west-silent", "l1-dead")),
+    Rolled("rollout-eight-routers", "data-centre", "half", "changed", ("l2-s1-cut", "west-silent")),
     Watched("watch"),
     Right("restless", "data-centre", "half", ("no-failure", "l2-s1-cut", "west-silent"), restless=8),
     Right("three-daemons", "data-centre", "L2,S1,B1", ("no-failure", "l2-s1-cut", "west-silent", "l1-dead", "no-failure"), openbgpd="L1,L3,S2"),
@@ -145,7 +145,7 @@ THREE = {"data-centre": ("L2,S1,B1", "L1,L3,S2"), "ring": ("A", "C,D"), "two-exi
 MORE: list[Run] = [
     Wrong("frr-grouped", "ring", "A", "no zebra nexthop kernel enable\n", "", "kernel of A sends to D,", ("west-lost",), "frr", SEVERAL),
     *(Rolled(f"rollout-{example}-{frr or 'bird'}", example, frr, policy)
-      for example, policy in (("two-exits", "swapped"), ("data-centre", "changed")) for frr in ("", "all")),
+      for example, policy in (("two-exits", "swapped"), ("data-centre", "changed")) for frr in ("", "all", "half")),
     *(Right(f"restless-{example}-{frr or 'bird'}", example, frr, (), restless=20)
       for example in ("data-centre", "ring", "two-exits") for frr in ("", "all", "half")),
     Right("two-exits-openbgpd", "two-exits", "", (), addresses="openbgpd", openbgpd="all"),
