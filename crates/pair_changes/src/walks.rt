@@ -6,10 +6,10 @@ ghost use Rattle.policy_base.specs.Walks.{is_loop_free as loop_free};
 ghost use Rattle.compare_base.specs.declared.rows.Kind.{Kind as PlainKind};
 ghost use Rattle.compare_base.specs.declared.rows.Place.{Place as PlainPlace};
 ghost use Rattle.compare_base.specs.declared.rows.Row.{Row as PlainRow};
+ghost use Rattle.compare_base.specs.Same.{same_row};
 ghost use Rattle.pair_rows.specs.declared.values.FirstRow.{FirstRow as PlainFirst};
 ghost use Rattle.place_rows.specs.Rows.{rows_of};
 ghost use Rattle.pair_changes.specs.Walks.{AreAllShown, AreWalks, IsExample, IsShown, IsWalkFrom};
-ghost use Rattle.compare_base.specs.Same.{same_row};
 
 use compare_base::{Kind, Place, Row};
 use input_output::NoMemory;

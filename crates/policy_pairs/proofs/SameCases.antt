@@ -9,8 +9,8 @@ use Rattle.net_base.specs.declared.loc.LocSet.{LocSet}
 use Rattle.net_base.specs.Sets.{same_set}
 use Rattle.compare_base.specs.declared.cases.PrefixCase.{PrefixCase}
 use Rattle.compare_base.specs.declared.cases.CasePair.{CasePair}
-use Rattle.evidence_law.proofs.CaseLists.{set_is}
 use Rattle.compare_base.specs.Same.{same_case, same_cases}
+use Rattle.evidence_law.proofs.CaseLists.{set_is}
 
 sets_are : (a b : Option LocSet) → option_eq same_set a b ≡ true → a ≡ b
 sets_are None None same = refl

@@ -1,17 +1,14 @@
 -- The pairs of cases that prefixes have in two policies, and which prefixes have each.
-use Rattle.std.specs.Prelude.{◌≡◌, ◌≢◌, ◌⊎◌, ℕ, ◌<◌, Bool, false, ◌&&◌, IsTrue, List, ◌++◌, filter, is_none, map, min, nat_eq, nat_le, slice_get, Option, Some, None, if◌then◌else◌}
-use Rattle.std.specs.Option.{option_eq}
+use Rattle.std.specs.Prelude.{◌≡◌, ◌≢◌, ◌⊎◌, ℕ, ◌<◌, Bool, false, IsTrue, List, ◌++◌, filter, is_none, map, min, nat_le, slice_get, Option, Some, None, if◌then◌else◌}
 use Rattle.list_law.specs.Members.{IsIn}
 use Rattle.net_base.specs.Network.{PlainNet}
 use Rattle.net_base.specs.Prefixes.{PlainPattern, PlainPrefix, IsPrefix, only}
-use Rattle.net_base.specs.Sets.{same_set}
 use Rattle.policy_base.specs.declared.policy.Origin.{Origin}
 use Rattle.policy_base.specs.Policies.{PlainPolicy}
 use Rattle.policy_base.specs.Governing.{originated_at}
 use Rattle.first_patterns.specs.declared.firsts.Stated.{Stated}
 use Rattle.first_patterns.specs.Firsts.{first_pattern}
 use Rattle.least_prefixes.specs.Classes.{AreLeast}
-use Rattle.compare_base.specs.declared.cases.PrefixCase.{PrefixCase}
 use Rattle.compare_base.specs.declared.cases.CasePair.{CasePair}
 use Rattle.compare_base.specs.declared.pairs.CommonPattern.{CommonPattern}
 use Rattle.compare_base.specs.declared.pairs.Pair.{Pair}
