@@ -24,10 +24,11 @@ use Rattle.pair_rows.specs.Rows.{AreCompared, AreRows, IsEarlier, IsLess, from_p
 use Rattle.pair_rows.proofs.FirstWalks.{first_walks, rows_are}
 use Rattle.row_words.specs.WordsOfRows.{shown_rows, words_of}
 use Rattle.pair_changes.specs.declared.ways.Way.{Way}
-use Rattle.pair_changes.specs.Changes.{AreCarriers, AreFirstWalks, AreInOrder, ComesBefore, ComesFirst, Differs, IsKind, IsPairChange, IsPlace}
+use Rattle.pair_changes.specs.Changes.{AreCarriers, AreFirstWalks, AreInOrder, ComesBefore, ComesFirst, Differs, IsExample, IsKind, IsPairChange, IsPlace}
 use Rattle.pair_changes.specs.Kinds.{AreKinds, differs_so, way_by}
 use Rattle.pair_changes.specs.Places.{ArePlaces}
 use Rattle.pair_changes.specs.Walks.{AreAllShown, AreWalks, IsShown}
+use Rattle.pair_changes.proofs.Examples.{example_by}
 use Rattle.pair_changes.proofs.InOrder.{order_filter}
 use Rattle.pair_changes.proofs.KindTests.{of_from, of_parts, so_parts}
 
@@ -120,11 +121,10 @@ module _ (net : PlainNet) (old new : PlainPolicy) (p : PlainPrefix) where
         is_kind = record {
           places = λ place. (differs_there place, there_differs place);
           order = subst AreInOrder (sym (is.places ∙ grouped.each a at)) (order_filter ComesFirst (λ q. differs_so a (way q)) places all.order);
-          example = (
-            is.example.0,
-            subst (λ (ps : List Place). IsIn ps is.example.0) (sym is.places) is.example.1,
-            subst (λ (xs : List Row). AreFirstWalks net old new p is.example.0 xs b.walks) (sym is.rows) (walks_are is.example.0 b.walks is.example.2),
-          );
+          example =
+              subst (λ (ps : List Place). IsExample (λ place. AreFirstWalks net old new p place b.rows) ps b.walks) (sym is.places)
+              (subst (λ (xs : List Row). IsExample (λ place. AreFirstWalks net old new p place xs) a.places b.walks) (sym is.rows)
+              (example_by (λ place. AreWalks both (firsts place) place.peer a.rows) (λ place. AreFirstWalks net old new p place a.rows) a.places b.walks walks_are is.example));
         }
 
       -- ---- all kinds
