@@ -15,6 +15,7 @@ use Rattle.compare_base.specs.declared.pairs.Pair.{Pair}
 use Rattle.compare_base.specs.declared.pairs.PairPrefixes.{PairPrefixes}
 use Rattle.compare_base.specs.declared.pairs.PairPrefixes.TheVariants.{Originated, Others}
 use Rattle.compare_base.specs.Cases.{is_originated, pair_for, says_something}
+use Rattle.compare_base.specs.Order.{IsLess}
 use Rattle.compare_base.specs.Same.{same_cases}
 
 -- ---- prefixes
@@ -63,13 +64,7 @@ pub record IsPair (net : PlainNet) (old new : PlainPolicy) (pair : Pair) : Type 
   pub said : IsTrue (says_something net pair.cases)
   pub told : ArePrefixes old new pair.cases pair.prefixes
 
--- by number, none last
-abbrev pub IsLess : Option ℕ → Option ℕ → Type 0
-IsLess (Some i) (Some j) = i < j
-IsLess (Some i) None = Unit {0}
-IsLess None b = ⊥
-
--- by statement in the old policy, and then in the new one
+-- by statement in the old policy, and then in the new one, none last
 abbrev pub ComesByStatement : CasePair → CasePair → Type 0
 ComesByStatement a b = IsLess a.old.statement b.old.statement ⊎ ((a.old.statement ≡ b.old.statement) × IsLess a.new.statement b.new.statement)
 
