@@ -1,12 +1,13 @@
 -- The rows of a place are a list: not to have one is impossible, since there are finitely many ranks.
-use Rattle.std.proofs.Common.{◌≡◌, ℕ, zero, suc, ◌+◌, ◌<◌, ◌≤◌, List, [], ◌∷◌, ◌++◌, Option, Some, None, refl, sym, ap, ◌∙◌, subst, arith, inl, inr, ◌↔◌}
+use Rattle.std.proofs.Common.{◌≡◌, ℕ, zero, suc, ◌+◌, ◌<◌, ◌≤◌, List, [], ◌∷◌, ◌++◌, Option, Some, None, refl, sym, ap, subst, arith, inl, inr, ◌↔◌}
 use Rattle.std.specs.Prelude.{slice_get}
 use Rattle.std.proofs.lemmas.Bool.{cases_lt}
 use Rattle.std.proofs.lemmas.Option.{same_Some}
 use Rattle.list_law.specs.Members.{IsIn}
 use Rattle.list_law.proofs.Members.{IsIn-append_cases, IsIn-append_left, IsIn-append_right, IsIn-nil}
 use Rattle.compare_base.specs.declared.rows.Row.{Row}
-use Rattle.pair_rows.specs.Rows.{IsEarlier, IsLess}
+use Rattle.compare_base.specs.Order.{IsLess}
+use Rattle.pair_rows.specs.Rows.{IsEarlier}
 
 -- ---- in order
 
