@@ -73,7 +73,7 @@ class Json(unittest.TestCase):
     def test_each_form(self):
         """Each form reads a line that it writes, and no other form of the command takes it for its own."""
         values = {"": "R", "#": 7, "?": 7, "!": 7, "~": True, "&": ["A", "B"], "*": ["A", "B", "C"], "^": "10.0.0.0/8 le 24",
-                  "+": [1, 12], ",": [["10.0.0.0/8 le 24", "10.0.1.0/24"], ["A"]], "%": [["A", "B"], ["C", "D"]], "$": "exit(A) and not (drop)",
+                  "+": [1, 12], ",": [["10.0.0.0/8 le 24", "10.0.1.0/24"], ["A"]], "%": [["A", "B"], ["C", "D"]], "@": [["A", "B"], ["C", "D"]], "$": "exit(A) and not (drop)",
                   "/": [["10.0.0.0/8 le 24", "10.0.0.0/8"], ["10.0.1.0/25 le 32", "10.0.1.0/24"], ["10.0.2.0/26", "10.0.2.0/24"]]}
         for command in LINES:
             for form in forms_of(command):
