@@ -5,6 +5,7 @@ import tempfile
 import unittest
 
 from common import PROGRAM, TOP, ended, example_folders
+from compared import ROWS
 from reports.document import document_of, json_of, schema_text, text_of
 from reports.forms import LINES, NO_REPORTS, forms_of
 
@@ -14,7 +15,8 @@ PAGE = os.path.join(TOP, "docs", "JSON.md")
 
 
 def reports():
-    """The reports of examples/: what each is called, its command, its status and its text."""
+    """The reports of examples/, and recorded comparisons: what each is called, its command, its status and its text."""
+    yield from ((row.name, "compare", 0, row.text) for row in ROWS)
     for folder in example_folders():
         for name in sorted(os.listdir(os.path.join(EXAMPLES, folder))):
             path = os.path.join(EXAMPLES, folder, name.removesuffix(".stdout"))

@@ -10,7 +10,6 @@ from unittest import mock
 from common import PROGRAM, TOP, ended
 from compared import comparing, row_of
 from texts import json_places
-from words import hints
 from words.hints import hints_for, places_for
 from words.requests import ordinal
 
@@ -319,12 +318,12 @@ class Words(unittest.TestCase):
             (1, "refused 9 too-many-pairs statement none now 1", "new:2:1", "Statement 1, new."),
             (1, "refused 9 too-many-pairs statement 3 now 1", None, "1,048,576 steps"),
         ]:
-            with self.subTest(line), mock.patch.object(hints, "usage", lambda _: asked):
+            with self.subTest(line), mock.patch("words.hints.usage", lambda _: asked):
                 lines = hints_for(PROGRAM, status, f"propane: {line}\n".encode(), ["compare", "net.json", "old", "new"])
                 self.assertEqual([each.strip() for each in lines if each.strip() == place], [place] if place else [], lines)
                 self.assertIn(wanted, " ".join(" ".join(lines).split()))
                 self.assertIn("LANGUAGE.md" if status == 3 else "REFUSALS.md", " ".join(lines))
-        with mock.patch.object(hints, "usage", lambda _: asked):
+        with mock.patch("words.hints.usage", lambda _: asked):
             said = hints_for(PROGRAM, 3, b"propane: topology 1 not-json\n", ["compare", "old", "net.json", "new"])
         self.assertEqual(said[0], "  old and net.json stand in each other's place: change them round.")
 
