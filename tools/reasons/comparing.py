@@ -76,7 +76,7 @@ class Compared:
         """The routers and sessions in words. Of what is taken away those are left out that are no sources any more."""
         every = self.places(change, places)
         if not is_taken or self.free.isdisjoint(every):
-            return " and ".join(words_of(kind, held) for kind in KINDS if (held := getattr(places, kind)))
+            return ", and ".join(words_of(kind, held) for kind in KINDS if (held := getattr(places, kind)))
         return named([name for name in every if name not in self.free])
 
     @staticmethod

@@ -29,7 +29,7 @@ SENTENCES = {
         "carried no more by KSCY",
     ],
     "a region softened": [
-        "newly allowed for all routers and all sessions but ATLA to Campus: STTL SNVA LOSA HSTN ATLA WASH (rank 2)",
+        "newly allowed for all routers, and all sessions but ATLA to Campus: STTL SNVA LOSA HSTN ATLA WASH (rank 2)",
         "newly allowed for ATLA to Campus: Campus ATLA WASH (rank 2)",
         "taken away: nothing that was allowed",
         "order changed: nowhere",
