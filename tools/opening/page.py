@@ -94,6 +94,8 @@ class Page:
             told |= places.of_fault(self.runner, command, answer, self.texts(command, policy, third), lane)
         if command == "lint" and answer.status == DONE:
             told["findings"] = places.findings(policy, output)
+        if command == "compare" and answer.status == DONE:
+            told["statements"] = places.compared(policy, third)
         if command == "promises" and answer.status in (DONE, REFUSED):
             told["outline"] = places.outline(policy)
         if command == "compile" and isinstance(value.get("router"), str):

@@ -17,7 +17,10 @@ from .runner import COMMANDS, Answer, Runner
 Place = dict[str, int]
 Told = dict[str, object]
 KINDS: dict[str, list[str]] = {"": [], "scenario.json": ["SCENARIO"], "events.json": ["EVENTS"]}  # of a command's third text
-CHANGING = {"renew": ["TOPO", "POLICY", "CONFIG", "EVIDENCE"], "between": ["BEFORE", "AFTER"], "maps": ["CONFIG"]}  # the texts of commands that aren't asked alone
+OTHERS = {  # the texts of commands that don't begin with a topology and one policy, or that aren't asked alone
+    "compare": ["TOPO", "OLD", "NEW"], "renew": ["TOPO", "POLICY", "CONFIG", "EVIDENCE"], "between": ["BEFORE", "AFTER"], "maps": ["CONFIG"],
+}
+EDITED = {"POLICY", "NEW"}  # the kinds of a text that stands in the page's field
 FINDING = re.compile(r"(?:unused group (?P<group>\S+)|(?:covered|idle|unreached) statement (?P<statement>[0-9]+)(?: alternative [0-9]+)?)")
 
 
@@ -50,7 +53,7 @@ def place_of(hint: Hint, held: bytes) -> Place:
 
 def kinds_of(command: str) -> list[str]:
     """What the texts of a command are, as the usage line has it."""
-    return CHANGING[command] if command in CHANGING else ["TOPO", "POLICY", *KINDS[COMMANDS[command]]]
+    return OTHERS[command] if command in OTHERS else ["TOPO", "POLICY", *KINDS[COMMANDS[command]]]
 
 
 def hint_on(runner: Runner, command: str, answer: Answer, texts: Mapping[int, Text], lane: str) -> Hint:
@@ -71,7 +74,7 @@ def of_fault(runner: Runner, command: str, answer: Answer, texts: Mapping[int, T
     """What is said of a fault or a refusal: sentences, near names, where in another text it is, and a page that says more; and its place
     in the policy, where the second text is one, or none."""
     hint = hint_on(runner, command, answer, texts, lane)
-    policy = texts[1] if kinds_of(command)[1] == "POLICY" and hint.text is texts[1] else None
+    policy = next((text for place, text in texts.items() if text is hint.text and kinds_of(command)[place] in EDITED), None)
     where = hint.text.place(hint.at) if hint.text and not policy else ""
     words = {"says": hint.says, "near": hint.near, "where": where, "page": hint.page, "part": hint.part}
     return {"words": words, "place": place_of(hint, policy.bytes) if policy else None}
@@ -97,6 +100,14 @@ def outline(policy: str) -> Told:
         "statements": [{"number": each.number, "from": at[each.begins], "to": at[each.ends]} for each in statements],
         "originates": [item[1].text for item in item_list if item[0].text == "originate" and len(item) > 1],
     }
+
+
+def compared(old: str, new: str) -> Told:
+    """The statements of two policies as they stand in their texts, each with its line."""
+    def told(held: bytes) -> list[Told]:
+        return [{"line": each.line, "text": held[each.begins:each.ends or len(held)].decode()} for each in statements_of(held)]
+
+    return {"old": told(old.encode()), "new": told(new.encode())}
 
 
 def findings(policy: str, output: str) -> list[Told]:

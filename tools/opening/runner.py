@@ -20,12 +20,12 @@ from collections import OrderedDict
 from collections.abc import Callable, Iterator
 from dataclasses import dataclass
 
-# What may be asked by itself, and the name of the third text that each reads. Besides, `renew` and `between` are run for the stages of a
-# change (`changing`), and tools/why. Everything else isn't run.
+# What may be asked by itself, and the name of the third text that each reads. Besides, `renew`, `between` and `maps` are run for the
+# stages of a change (`changing`), and tools/why. Everything else isn't run.
 COMMANDS = {
     "explain": "", "promises": "", "lint": "", "compile": "", "evidence": "", "routemap": "",
     "replay": "scenario.json", "whatif": "scenario.json", "drain": "scenario.json", "multipath": "scenario.json", "trace": "events.json",
-    "settle": "events.json", "waiting": "events.json",
+    "settle": "events.json", "waiting": "events.json", "compare": "edited.propane",
 }
 SECONDS, WHY_SECONDS = 60, 60
 LAST_SECONDS = 5  # at the end, for processes that were killed to be gone

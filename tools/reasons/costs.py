@@ -1,8 +1,8 @@
 """What a repair gives up and what it newly allows, as far as the program tells it.
 
 `given_up` alone is called from outside. It asks `promises` for the best rank of each claimed source, `replay` for the path that each
-then has and which rank that path had in the statement as it was, `impact` for what single cuts take away, and `lint` whether a path
-that was forbidden is allowed.
+then has and which rank that path had in the statement as it was, `impact` for what single cuts take away, and `compare` for what else
+is permitted or stands in another order (`comparing`).
 
 What the statement could give as it was is said of paths. A walk may visit a router twice, so the best rank of a walk is only a bound. It
 is shown where a loop-free path has it, or where all paths were tried.
@@ -15,24 +15,24 @@ from dataclasses import dataclass
 from typing import Optional
 
 from texts.cases import Case
-from texts.policy import BOTH, RANKED, Call, Expression, Joined, Not, Policy, Statement, joined
+from texts.comparison import comparison_of
+from texts.policy import RANKED, Call, Expression, Joined, Policy, Statement
 from texts.promises import promises_of
 
+from . import comparing
 from .cases import TO, Ranks, examples
+from .comparing import Compared, named
 from .expressions import flat
 from .network import Network, Walk
 from .program import Program
 from .words import listed, shown
 
-MOST_NAMED = 12
 MOST_PATHS = 400  # paths whose ranks are asked at once
 TRIED_PATHS = (1, 4, 40)  # paths of a source, one after another
 NOT_ALLOWED, NO_PATH = 0, None
 Cuts = dict[str, list[str]]  # with whom each leaves without a path
 UNKNOWN = "what it gives up isn't known: the program tells nothing of it"
 ANY = Call("any")
-ALLOWS_NOTHING = "newly allowed: nothing that was forbidden"
-NEWLY_UNKNOWN = "newly allowed: that isn't known"
 
 
 @dataclass(frozen=True)
@@ -76,11 +76,6 @@ def cuts_in(impact: str) -> tuple[str, Cuts]:
     return "0", found
 
 
-def named(names: Iterable[str]) -> str:
-    names = list(names)
-    return listed(names if len(names) <= MOST_NAMED else [*names[:MOST_NAMED], f"{len(names) - MOST_NAMED} more"])
-
-
 def groups_of(values: Mapping[str, int]) -> list[tuple[int, list[str]]]:
     """The sources of each value, the least values first."""
     groups: dict[int, list[str]] = {}
@@ -120,8 +115,6 @@ class Asked:
         named = statement.sources is not None and "any" not in statement.sources
         self.asked = [source for source in sources if named or walks.get(source, True)]
         self.best = self.best_of(network, walks)
-        most = max(1, min(TRIED_PATHS[-1], MOST_PATHS // max(1, len(sources))))
-        self.tried = {source: network.paths(source.split(TO)[::-1], case.origins, most) for source in sources[:MOST_PATHS]}
 
     def best_of(self, network: Network, walks: Mapping[str, int | None]) -> dict[str, int]:
         """A walk may visit a router twice and a path not. So paths are tried, until one has the best rank of a walk or all were tried."""
@@ -154,44 +147,39 @@ class Asked:
                 return promised, cuts_in(impact), paths_in(self.program.replay(text, prefix))
         return None
 
-    def newly(self, after: Statement) -> tuple[list[Walk], str]:
-        """Paths of the sources that a repaired statement allows and this one forbids, as far as they are found; and the line that says so."""
-        if after.expression == self.statement.expression:
-            return [], ALLOWS_NOTHING
-        more = joined(BOTH, flat(after.expression), Not(flat(self.statement.expression)))
-        ranks = Ranks(self.program, self.policy, self.ranks.network, self.case, more)
-        said = ranks.within([ANY])
-        if not said:
-            return [], NEWLY_UNKNOWN
-        if said == [set()]:
-            return [], ALLOWS_NOTHING
-        asked = ranks.of([path for paths, _ in self.tried.values() for path in paths])
-        if not asked:
-            return [], NEWLY_UNKNOWN
-        found = [path for path in asked if asked[path]]
-        if found:
-            return found, f"newly allowed: {'; '.join(map(shown, found[:2]))}{f'; and {len(found) - 2} paths more' if len(found) > 2 else ''}"
-        are_all = len(self.tried) == len(self.sources) and all(whole for _, whole in self.tried.values())
-        return [], ALLOWS_NOTHING if are_all else f"newly allowed: none of the {len(asked)} paths that were tried; others may be"
+    def freed(self, after: Statement) -> list[str]:
+        """The routers that are no sources any more by a repaired statement."""
+        asked = asked_sources(self.policy, self.ranks.network, self.case, after)
+        return [source for source in self.sources if source not in asked and TO not in source]
+
+    def compared(self, after: Statement) -> Compared | None:
+        """What `compare` says of a repaired statement. Where this one is too large to be compared, what it permits is, all of it liked
+        alike. None where the program tells nothing."""
+        alike = self.statement.having(expression=flat(self.statement.expression))
+        repaired = self.program.kept("repaired.propane", self.policy.alone(after))
+        for before in (self.statement, alike):
+            said = self.program.told("compare", self.policy.alone(before), repaired)
+            if said:
+                return Compared(comparison_of(said), self.ranks.network, before is self.statement, frozenset(self.freed(after)))
+        return None
 
     def given_up(self, after: Statement) -> Price:
         """What a repaired statement gives up."""
-        outcome = self.outcome(self.policy.alone(after))
+        outcome, compared = self.outcome(self.policy.alone(after)), self.compared(after)
+        changed = compared.lines() if compared else [comparing.UNKNOWN]
         if not outcome:
-            return Price((), [UNKNOWN])
+            return Price((), [UNKNOWN, *changed])
         base, (count, cuts), paths = outcome
         known = self.ranks_of(paths.values())
         lines = [f"promised rank {rank}: {named(sources)}" for rank, sources in groups_of(base)]
         unpromised = [source for source in self.asked if source not in base]
-        free = set(self.sources) - set(asked_sources(self.policy, self.ranks.network, self.case, after))
-        free = {source for source in free if TO not in source}
+        free = self.freed(after)
         held = [source for source in unpromised if source not in free]
         if held:
             lines.append(f"promised nothing: {named(held)}")
         if free:
-            lines.append(f"no longer sources, free to use what they carry: {named(source for source in self.sources if source in free)}")
-        newly, said = self.newly(after)
-        lines.append(said)
+            lines.append(f"no longer sources, free to use what they carry: {named(free)}")
+        lines += changed
         lost: dict[tuple[int, Optional[int]], list[str]] = {}
         for source, best in self.best.items():
             path = paths.get(source)
@@ -208,9 +196,9 @@ class Asked:
             some = [f"{cut} for {named(sources)}" for cut, sources in list(cuts.items())[:2]]
             lines.append(f"no path after {len(cuts)} of {count} single cuts: {'; '.join(some)}{'; ..' if len(cuts) > 2 else ''}")
         worse = sum(len(sources) * (1 if got else 2) for (_, got), sources in lost.items())
-        freed = len({path[0] if path[0] not in self.ranks.network.ends else path[:2] for path in newly})
-        much = (int(bool(newly) and opens(self.statement.expression, after.expression)), len(unpromised) + worse + freed, len(unpromised),
-                len(newly), len(cuts))
+        newly, count_of_paths = (compared.freed(), compared.count()) if compared else (set(), 0)
+        much = (int(bool(newly) and opens(self.statement.expression, after.expression)), len(unpromised) + worse + len(newly),
+                len(unpromised), count_of_paths, len(cuts))
         return Price(much, lines, self.is_poor(base, lost))
 
     def is_poor(self, base: Mapping[str, int], lost: Mapping[tuple[int, Optional[int]], Sequence[str]]) -> bool:

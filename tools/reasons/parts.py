@@ -80,7 +80,7 @@ class Repairs:
 
     def notes(self) -> list[str]:
         """What is to be known of them."""
-        alone = [f"What is given up is told for case {self.case} alone."] if self.repairs and self.case else []
+        alone = [f"Ranks, paths and cuts are told for case {self.case} alone."] if self.repairs and self.case else []
         poor = [f"Left out, as rank 1 goes to nobody or a source loses its path: {self.left_out}."] if self.left_out else []
         return [*poor, "docs/LANGUAGE.md has the habits, and docs/COOKBOOK.md more forms.", *alone]
 

@@ -83,6 +83,31 @@ idle       idle statement {statement#}
 unreached  unreached statement {statement#} alternative {alternative#}
 findings   findings {findings#}
 """
+COMPARED = """
+change     change statement {old?} now {new?}
+prefix     prefix {prefix^}
+prefix     prefix {prefix^} as {least}
+prefix     prefix {first} to {last}
+origins    origins {of=peers}
+origins    origins {of=routers} {routers*}
+origins    origins {of=all} routers
+origins    origins {of=all} routers but {but*}
+origins    origins {in=lost|kept|gained} {of=peers}
+origins    origins {in=lost|kept|gained} {of=routers} {routers*}
+origins    origins {in=lost|kept|gained} {of=all} routers
+origins    origins {in=lost|kept|gained} {of=all} routers but {but*}
+differs    differs {words*}
+part       {part=only|but} {prefix}
+part       {part=only|but} {first} to {last}
+routers    routers {routers*}
+sessions   sessions {sessions@}
+all        all {of=routers|sessions}
+all        all {of=routers} but {but*}
+all        all {of=sessions} but {but@}
+row        rank {old?} now {new?} {state=path|walk} {walk*}
+carriers   carriers {in=lost|gained}
+cases      cases {cases#} changed {changed#}
+"""
 AUDITED = """
 stable     stable
 unstable   unstable router {router} {fault=dead|own|not-given}
@@ -118,6 +143,7 @@ LINES = {
     "drain": FREE,
     "multipath": SPREAD,
     "lint": FINDINGS,
+    "compare": COMPARED,
     "audit": VERDICT + AUDITED + OUTCOME,
     "check": VERDICT,
     "checkmap": "same  same\ndiffers  differs line {line#}\n",
@@ -129,7 +155,7 @@ LINES = {
 LATER = {"promises": 2, "whatif": 2}
 # The lines below which others stand, up to the next of their kind or the line that ends the report.
 ABOVE = {"promises": ("case", frozenset({"statement", "uncarried", "open", "cases"})), "whatif": ("cut", frozenset({"cuts"})),
-         "impact": ("cut", frozenset({"cuts"}))}
+         "impact": ("cut", frozenset({"cuts"})), "compare": ("change", frozenset({"cases"}))}
 NONE_ABOVE: tuple[str, frozenset[str]] = ("", frozenset())
 # What the other commands write is no report: a configuration, evidence, maps or a page of help.
 NO_REPORTS = {"compile", "evidence", "migrate", "routemap", "help", "maps", "between", "renew", "renewal"}

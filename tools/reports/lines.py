@@ -9,7 +9,7 @@
     {path*}     an array of one word or more; in a form with several the first ones are the shortest that fit
     {cases+}    an array of whole numbers
     {names,}    an array, with an array for each word: its parts, which stand behind commas; a part may be a prefix with ` le N`
-    {pairs%}    an array of arrays of two words
+    {pairs%}    an array of arrays of two words; {pairs@} the same, with commas between in the line
     {parts/}    an array of arrays of a pattern and the prefix that it is inside of, with commas between; the prefix stands there where it
                 isn't the pattern's own
     {rest$}     the rest of the line
@@ -21,14 +21,14 @@ from __future__ import annotations
 import re
 from typing import Any, NamedTuple
 
-FIELD = re.compile(r"\{([a-z]+)([#?!~&*^+,%$/]|=[a-z|-]+)?\}")
+FIELD = re.compile(r"\{([a-z]+)([#?!~&*^+,%@$/]|=[a-z|-]+)?\}")
 NUMBER = "0|[1-9][0-9]*"
 PART = r"[^\s,]+(?: le [0-9]+)?"
 WORD = f"{PART}(?:,{PART})*"
 OPEN = rf"{PART}(?: in [^\s,]+)?"
 PATTERNS = {"": r"\S+", "#": NUMBER, "?": f"none|{NUMBER}", "!": f"none|rank (?:{NUMBER})", "~": "yes|no", "&": r"\S+ \S+",
             "*": r"\S+(?: \S+)*?", "^": r"\S+(?: le [0-9]+)?", "+": f"(?:{NUMBER})(?: (?:{NUMBER}))*", ",": rf"{WORD}(?: {WORD})*",
-            "%": r"\S+ \S+(?: \S+ \S+)*?", "$": ".+", "/": f"{OPEN}(?:, {OPEN})*"}
+            "%": r"\S+ \S+(?: \S+ \S+)*?", "@": r"\S+ [^\s,]+(?:, \S+ [^\s,]+)*", "$": ".+", "/": f"{OPEN}(?:, {OPEN})*"}
 Fields = dict[str, Any]
 
 
@@ -52,6 +52,8 @@ class Field(NamedTuple):
             if self.sort == "%":
                 return [list(pair) for pair in zip(words[::2], words[1::2])]
             return [int(word) for word in words] if self.sort == "+" else words
+        if self.sort == "@":
+            return [pair.split(" ") for pair in text.split(", ")]
         if self.sort == "/":
             return [part_of(part) for part in text.split(", ")]
         if self.sort == ",":
@@ -70,6 +72,8 @@ class Field(NamedTuple):
             return ", ".join(pattern if pattern.split(" ")[0] == prefix else f"{pattern} in {prefix}" for pattern, prefix in value)
         if self.sort in (",", "%"):
             return " ".join(("," if self.sort == "," else " ").join(each) for each in value)
+        if self.sort == "@":
+            return ", ".join(map(" ".join, value))
         if self.sort == "~":
             return "yes" if value else "no"
         if value is None:
@@ -83,8 +87,8 @@ class Field(NamedTuple):
         if self.sort in ("&", "*"):
             size = {"minItems": 2, "maxItems": 2} if self.sort == "&" else {"minItems": 1}
             return {"type": "array", "items": {"type": "string"}} | size
-        if self.sort in ("+", ",", "%", "/"):
-            pair = {"minItems": 2, "maxItems": 2} if self.sort in ("%", "/") else {"minItems": 1}
+        if self.sort in ("+", ",", "%", "@", "/"):
+            pair = {"minItems": 2, "maxItems": 2} if self.sort in ("%", "@", "/") else {"minItems": 1}
             item = {"type": "integer", "minimum": 1} if self.sort == "+" else {"type": "array", "items": {"type": "string"}} | pair
             return {"type": "array", "items": item, "minItems": 1}
         if self.sort in ("#", "?", "!"):

@@ -1,5 +1,5 @@
 """The forms of the lines that commands write, each with what a reader is to find in it: one table, to which the reader of the page of
-tools/open (opening/web/read.js) and those of tools/reasons are held. docs/FORMATS.md has the forms.
+tools/open (opening/web/read.js) and those of tools/reasons and tools/texts are held. docs/FORMATS.md has the forms.
 """
 from __future__ import annotations
 
@@ -8,6 +8,8 @@ from typing import Any
 
 CASE = "case 2 5 statement 3\nprefix 10.0.1.0/24,10.0.2.0/24 10.0.5.0/24\norigin R3 R2,R3\n"  # of which readers show the first
 CUT_LINK, CUT_ROUTER = "cut link R1 P1 moves 2 shifts 3\n", "cut router R2 moves 0 shifts 1\n"
+CHANGE = "change statement 1 now 2\n"
+DIFFERS = CHANGE + "prefix 10.0.1.0/24\norigins peers\ndiffers lost\n"
 COUNTED = "cases 1 unclaimed 0 transit 0 covered 0 unused 0 uncarried 0 open 0"  # the last line of promises
 NAMES = ("R1", "R2", "R3", "P1", "P2")  # routers and peers of the lines
 
@@ -113,6 +115,30 @@ ROWS = (
     Row("waits", "waits R2 R1 withdraw", {"waits": [["R1", "R2", [["R1", "P1"]]], ["R2", "R1", [None]]]}, "waits R1 R2 path R1 P1\n"),
     Row("waits", "quiet no"),
     Row("waits", "quiet yes"),
+    Row("compared", "change statement 1 now none", {"changes": [[1, None]]}),
+    Row("compared", "change statement none now 3", {"changes": [[None, 3]]}),
+    Row("compared", "prefix 10.0.1.0/24", {"prefixes": ["10.0.1.0/24"]}, CHANGE),
+    Row("compared", "prefix 10.0.1.0/24 to 10.0.4.0/24", {"prefixes": ["10.0.1.0/24 to 10.0.4.0/24"]}, CHANGE),
+    Row("compared", "prefix 10.0.0.0/8 le 24 as 10.0.0.0/10", {"prefixes": ["10.0.0.0/8 le 24 as 10.0.0.0/10"]}, CHANGE),
+    Row("compared", "origins peers", {"origins": [["", None]]}, CHANGE),
+    Row("compared", "origins routers R1 R2", {"origins": [["", [False, ["R1", "R2"]]]]}, CHANGE),
+    Row("compared", "origins lost peers", {"origins": [["lost", None]]}, CHANGE),
+    Row("compared", "origins kept all routers", {"origins": [["kept", [True, []]]]}, CHANGE),
+    Row("compared", "origins gained all routers but R3", {"origins": [["gained", [True, ["R3"]]]]}, CHANGE),
+    Row("compared", "differs lost reordered", {"differs": [["lost", "reordered"]]}, CHANGE),
+    Row("compared", "only 10.0.1.0/24", {"part": ["only 10.0.1.0/24"]}, DIFFERS),
+    Row("compared", "but 10.0.1.0/24 to 10.0.2.0/24", {"part": ["but 10.0.1.0/24 to 10.0.2.0/24"]}, DIFFERS),
+    Row("compared", "routers R1 R2", {"routers": [False, ["R1", "R2"]]}, DIFFERS),
+    Row("compared", "all routers", {"routers": [True, []]}, DIFFERS),
+    Row("compared", "all routers but R1 R2", {"routers": [True, ["R1", "R2"]]}, DIFFERS),
+    Row("compared", "sessions R1 P1, R2 P2", {"sessions": [False, ["R1 P1", "R2 P2"]]}, DIFFERS),
+    Row("compared", "all sessions", {"sessions": [True, []]}, DIFFERS),
+    Row("compared", "all sessions but R1 P1, R2 P2", {"sessions": [True, ["R1 P1", "R2 P2"]]}, DIFFERS),
+    Row("compared", "rank 1 now none path R1 R2 P1", {"rows": [[1, None, True, ["R1", "R2", "P1"]]]}, DIFFERS),
+    Row("compared", "rank none now 12 walk R1 R2 R1 P1", {"rows": [[None, 12, False, ["R1", "R2", "R1", "P1"]]]}, DIFFERS),
+    Row("compared", "carriers lost", {"carriers": ["lost"]}, DIFFERS),
+    Row("compared", "routers R1 R2", {"routers": [False, ["R1", "R2"]]}, DIFFERS + "carriers gained\n"),
+    Row("compared", "cases 7 changed 1", {"last": [7, 1]}, DIFFERS),
 )
 
 

@@ -169,7 +169,7 @@ class Install(unittest.TestCase):
         file = os.path.join(self.prefix, "share/bash-completion/completions/propane")
         every = sorted(form.split()[0] for form in self.commands)
         for line, wanted in [
-            ("propane ''", sorted([*every, "--output", "--json"])), ("propane com", ["compile"]), ("propane --json whati", ["whatif"]), ("propane help au", ["audit"]),
+            ("propane ''", sorted([*every, "--output", "--json"])), ("propane compi", ["compile"]), ("propane --json whati", ["whatif"]), ("propane help au", ["audit"]),
             ("propane compile ''", []), ("propane --output file che", ["check", "checkmap"]), ("propane --output ''", []),
         ]:
             with self.subTest(line):

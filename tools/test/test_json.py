@@ -5,6 +5,7 @@ import tempfile
 import unittest
 
 from common import PROGRAM, TOP, ended, example_folders
+from compared import ROWS
 from reports.document import document_of, json_of, schema_text, text_of
 from reports.forms import LINES, NO_REPORTS, forms_of
 
@@ -14,7 +15,8 @@ PAGE = os.path.join(TOP, "docs", "JSON.md")
 
 
 def reports():
-    """The reports of examples/: what each is called, its command, its status and its text."""
+    """The reports of examples/, and recorded comparisons: what each is called, its command, its status and its text."""
+    yield from ((row.name, "compare", 0, row.text) for row in ROWS)
     for folder in example_folders():
         for name in sorted(os.listdir(os.path.join(EXAMPLES, folder))):
             path = os.path.join(EXAMPLES, folder, name.removesuffix(".stdout"))
@@ -73,7 +75,7 @@ class Json(unittest.TestCase):
     def test_each_form(self):
         """Each form reads a line that it writes, and no other form of the command takes it for its own."""
         values = {"": "R", "#": 7, "?": 7, "!": 7, "~": True, "&": ["A", "B"], "*": ["A", "B", "C"], "^": "10.0.0.0/8 le 24",
-                  "+": [1, 12], ",": [["10.0.0.0/8 le 24", "10.0.1.0/24"], ["A"]], "%": [["A", "B"], ["C", "D"]], "$": "exit(A) and not (drop)",
+                  "+": [1, 12], ",": [["10.0.0.0/8 le 24", "10.0.1.0/24"], ["A"]], "%": [["A", "B"], ["C", "D"]], "@": [["A", "B"], ["C", "D"]], "$": "exit(A) and not (drop)",
                   "/": [["10.0.0.0/8 le 24", "10.0.0.0/8"], ["10.0.1.0/25 le 32", "10.0.1.0/24"], ["10.0.2.0/26", "10.0.2.0/24"]]}
         for command in LINES:
             for form in forms_of(command):

@@ -1,9 +1,10 @@
-"""The readers of tools/reasons find in each form of line what the table of lines.py says. tools/page-check tries the page's reader."""
+"""The readers of tools/reasons and tools/texts find in each form of line what the table of lines.py says. tools/page-check tries the page's reader."""
 from __future__ import annotations
 
 import os
 import re
 import unittest
+from typing import Any
 
 from common import TOP
 from lines import NAMES, Row, rows
@@ -11,6 +12,7 @@ from reasons import costs
 from reasons.cases import TO
 from reasons.network import Network
 from reasons.picture import Report
+from texts.comparison import Change, Named, comparison_of
 
 NETWORK = Network(NAMES[:3], NAMES[3:], ())
 PAGE = os.path.join(TOP, "docs", "FORMATS.md")
@@ -44,6 +46,13 @@ class Lines(unittest.TestCase):
                 self.assertEqual(count, "5" if "last" in row.says else "9")
                 self.assertEqual([name.replace(TO, "–") for names in lost.values() for name in names], row.says.get("lost", []))
 
+    def test_comparisons(self) -> None:
+        """A line says what is found with it and isn't found without it."""
+        for row in rows("compared"):
+            end = "" if "last" in row.says else "cases 9 changed 9\n"
+            found, before = compared(row.text() + end), compared(f"{row.before}cases 9 changed 9\n")
+            self.assertEqual({name: each for name, each in found.items() if each != before[name]}, row.says, row.line)
+
     def test_each_form_of_the_page_has_a_row(self) -> None:
         """FORMATS names each form of a report and of promises in a table; names and numbers there stand for any."""
         with open(PAGE, encoding="utf-8") as file:
@@ -55,6 +64,25 @@ class Lines(unittest.TestCase):
             for form in re.findall(r"`([^`]+)`", " ".join(cells)):
                 form = form.removesuffix(" ..")
                 self.assertTrue(any(is_of(row, form) for row in rows(reader)) or form in ("prefix P", "class N"), (reader, form))
+
+
+def compared(text: str) -> dict[str, Any]:
+    """What the reader of comparisons finds in the last change, and in the places that were begun last."""
+    found = comparison_of(text)
+    change = found.changes[-1] if found.changes else Change(None, None)
+    places = [*change.differs, *change.carriers][-1:]
+
+    def named(held: Named | None) -> list[Any] | None:
+        return [held.are_all, list(held.names)] if held else None
+
+    return {
+        "changes": [[each.old, each.new] for each in found.changes], "prefixes": change.prefixes,
+        "origins": [[each.word, named(each.routers)] for each in change.origins], "differs": [list(each.words) for each in change.differs],
+        "part": [line for each in places for line in each.part], "routers": next((named(each.routers) for each in places), None),
+        "sessions": next((named(each.sessions) for each in places), None),
+        "rows": [[row.old, row.new, row.is_path, list(row.walk)] for each in change.differs for row in each.rows],
+        "carriers": [each.word for each in change.carriers], "last": [found.cases, found.changed],
+    }
 
 
 def is_of(row: Row, form: str) -> bool:

@@ -23,9 +23,10 @@ from concurrent.futures import ThreadPoolExecutor
 from unittest import mock
 
 from common import ended
+from compared import comparing, row_of
 from opening import runner
 from opening.runner import AT_ONCE
-from serving import OPEN, Served, example, text_of
+from serving import OPEN, Served, contrary, example, text_of
 
 TOPO, POLICY = example("two-exits", "topology.json"), example("two-exits", "policy.propane")
 RING = example("waypoint-ring", "topology.json"), example("waypoint-ring", "policy.propane")
@@ -129,6 +130,23 @@ class Answers(unittest.TestCase):
             found = served.ask("lint", policy)["findings"]
             self.assertEqual([each["line"] for each in found], text_of(example("lint", "lint.stdout")).splitlines()[:-1])
             self.assertEqual(policy[found[0]["place"]["from"]:found[0]["place"]["to"]], "U")
+
+    def test_two_policies_are_compared(self) -> None:
+        """The file's and the edited one, each with its statements; what is wrong in the edited one is marked, and in the other is told."""
+        row = row_of("shorter")
+        with tempfile.TemporaryDirectory() as folder, Served(row.topology(), row.old_file(), program=comparing(folder)) as served:
+            told = served.ask("compare", row.old(), row.new())
+            self.assertEqual((told["status"], told["output"]), (0, row.text))
+            own = "10.0.0.0/16 le {} => internal and notransit(LEAVES);"
+            self.assertEqual([told["statements"][which][0] for which in ("old", "new")], [{"line": 6, "text": own.format(n)} for n in (32, 24)])
+        policy, edited = text_of(POLICY), "# ü😀\ntrue => exit(P1 >> p2);\n"
+        for which, place, where in ("new", {"from": 25, "to": 27}, ""), ("old", None, "policy.propane:2:20"):
+            with tempfile.TemporaryDirectory() as folder:
+                script = f"echo 'propane: {which} policy 5 unknown at 2:20' >&2; exit 3"
+                with Served(TOPO, POLICY, program=contrary(folder, "compare", script)) as served:
+                    told = served.ask("compare", *((policy, edited) if which == "new" else (edited, policy)))
+                    self.assertEqual((told["status"], told["place"], told["words"]["where"]), (3, place, where))
+                    self.assertEqual(told["words"]["near"], ["P2"])
 
     def test_a_router_has_its_block(self) -> None:
         with Served(TOPO, POLICY) as served:

@@ -4,6 +4,7 @@ The program is the proved one, or the one that the variable PROGRAM names. Repai
 """
 import json
 import os
+import re
 import shutil
 import signal
 import subprocess
@@ -18,6 +19,7 @@ PROGRAM = os.path.abspath(os.environ.get("PROGRAM", os.path.join(TOP, "crates", 
 ENVIRONMENT = dict(os.environ, PROGRAM=PROGRAM, WHY_SECONDS="3000")
 sys.dont_write_bytecode = True
 sys.path[:0] = [os.path.join(TOP, "tools"), os.path.join(TOP, "tools", "test")]
+from compared import comparing  # noqa: E402
 from reasons import picture  # noqa: E402
 from refused import TRIALS  # noqa: E402
 from texts import policy  # noqa: E402
@@ -139,8 +141,10 @@ class Why(unittest.TestCase):
                     found, wanted = ([meaning(text, trial.above) for text in texts] for texts in (printed(out), trial.wanted))
                     self.assertTrue(any(each in wanted for each in found[:FIRST]), out)
                     repairs = out.partition("\nRepairs: ")[2]
-                    self.assertEqual(repairs.count("newly allowed: "), len(found), out)
-                    self.assertNotRegex(repairs, r"^(?s:.*?)\n  1 [^\n]* >> any[^\n]*\n(?: {8}[^\n]*\n)* {8}newly allowed: (?!nothing)")
+                    told = re.split(r"\n *[0-9]+ (?=10\.|true)", repairs)[1:]
+                    self.assertEqual(len(told), len(found), out)
+                    self.assertTrue(all(" newly allowed" in each for each in told), out)
+                    self.assertNotRegex(told[0], r"^[^\n]* >> any[^\n]*\n(?: {8}[^\n]*\n)* {8}newly allowed for")
 
     def tried(self, trial):
         """What is said of a trial."""
@@ -161,12 +165,13 @@ class Why(unittest.TestCase):
 
     def test_what_is_told_of_the_ring(self):
         folder = "waypoint-ring"
-        out = ended("why", example(folder, "topology.json"), example(folder, "policy.propane"))[1]
+        told = dict(ENVIRONMENT, PROGRAM=comparing(self.folder))
+        out = ended("why", example(folder, "topology.json"), example(folder, "policy.propane"), env=told)[1]
         self.assertEqual(out, text_of(example(folder, "why.txt")))
 
     def test_records_say_what_lines_say(self):
-        folder = "waypoint-ring"
-        status, out, err = ended("why", "--records", example(folder, "topology.json"), example(folder, "policy.propane"))
+        folder, told = "waypoint-ring", dict(ENVIRONMENT, PROGRAM=comparing(self.folder))
+        status, out, err = ended("why", "--records", example(folder, "topology.json"), example(folder, "policy.propane"), env=told)
         refused, repairs = map(json.loads, out.splitlines())
         self.assertEqual((status, err, refused["kind"], repairs["kind"]), (0, "", "refused", "repairs"))
         lines = text_of(example(folder, "why.txt")).splitlines()

@@ -5,8 +5,10 @@ import re
 import sys
 import tempfile
 import unittest
+from unittest import mock
 
 from common import PROGRAM, TOP, ended
+from compared import comparing, row_of
 from texts import json_places
 from words.hints import hints_for, places_for
 from words.requests import ordinal
@@ -249,6 +251,81 @@ class Words(unittest.TestCase):
         for hints, said in ("on", "".join(f"{line}\n" for line in lines)), ("off", ""):
             found = ended(run, text=False, env={**os.environ, "PROPANE_HINTS": hints})
             self.assertEqual((found[0], found[1], found[2].decode()), (0, report, said))
+
+    def compared(self, name):
+        """Writes the texts of a recorded comparison as files, in several lines; gives the words that compare them, and the report."""
+        row = row_of(name)
+        self.write("old", row.old())
+        self.write("new", row.new())
+        return ["compare", row.topology(), "old", "new"], row.text.encode()
+
+    def test_comparisons(self):
+        """Behind a report of `compare` the two statements of each change are shown, each pair once, with what its words say."""
+        words, report = self.compared("shorter")
+        wanted = [
+            "  old:6:1",
+            "    6 | 10.0.0.0/16 le 32 => internal and notransit(LEAVES);",
+            "      | ^^^^^^^^^^^^^^^^^^^^^^^^^^^^^^^^^^^^^^^^^^^^^^^^^^^^",
+            "  Statement 1, old.",
+            "  new:7:1",
+            "    7 | true => exit(W1 >> W2) and notransit(LEAVES);",
+            "      | ^^^^^^^^^^^^^^^^^^^^^^^^^^^^^^^^^^^^^^^^^^^^^",
+            "  Statement 2, new.",
+            "  `claimed`: the new policy permits walks there, and the old one none.",
+            "  `carriers gained`: walks go over these now, and none did.",
+        ]
+        self.assertEqual(places_for(report, words), wanted)
+        program = comparing(os.getcwd())
+        run = [os.path.join(TOP, "tools", "run"), program, *words]
+        for on, said in ("on", "".join(f"{line}\n" for line in wanted)), ("off", ""):
+            self.assertEqual(ended(run, env={**os.environ, "PROPANE_HINTS": on}), (0, report.decode(), said))
+        for name, count in ("the same", 0), ("opened", 1), ("swapped", 1):
+            words, report = self.compared(name)
+            self.assertEqual(sum(line.startswith("  Statement") for line in places_for(report, words)), 2 * count, name)
+        for words in ["compare", "net.json", "old"], ["compare", "net.json", "old", "none"], ["lint", "net.json", "old", "new"]:
+            self.assertEqual(places_for(report, words), [])
+
+    def test_comparisons_with_no_statement(self):
+        """A statement of several lines is shown by its first; where none governs the prefixes, that is said."""
+        self.write("old", "")
+        self.write("new", "true =>\n  exit(ISP);\n")
+        report = b"change statement none now 1\nprefix 0.0.0.0/0 le 32\norigins lost peers\ndiffers lost\nrouters A\nrank 1 now none walk A B A ISP\ncases 1 changed 1\n"
+        self.assertEqual(places_for(report, ["compare", "net.json", "old", "new"]), [
+            "  No statement of old governs these prefixes.",
+            "  new:1:1",
+            "    1 | true =>",
+            "      | ^^^^^^^",
+            "  Statement 1, new.",
+            "  `lost`: the old policy permits walks there that the new one forbids.",
+            "  `origins`: other locations originate the prefix now.",
+            "  `walk`: a walk that comes to a router twice. Where it stands, a path may have",
+            "  these ranks or none.",
+        ])
+        self.assertEqual(places_for(report.replace(b"now 1", b"now 2", 1), ["compare", "net.json", "old", "new"]), [])
+
+    def test_faults_of_two_policies(self):
+        """A fault or a refusal is shown in the policy that the program's line names."""
+        self.write("old", "originate 10.0.1.0/24 at A;\n10.0.1.0/24 => exit(Isp);\n")
+        self.write("new", "\n10.0.1.0/24 => avoid(a);\ntrue => any;\n")
+        asked = {"compare": ["TOPO", "OLD", "NEW"]}
+        for status, line, place, wanted in [
+            (3, "old policy 5 unknown at 2:21", "old:2:21", "Near it: ISP."),
+            (3, "new policy 5 unknown at 2:22", "new:2:22", "Near it: A."),
+            (1, "old refused 1 too-many-ranks case 1 number 81", "old:2:1", "Case 1: this statement, for 10.0.1.0/24, from A. The statement stands for 81"),
+            (1, "new refused 2 too-many-states case 1", "new:2:1", "this statement, for all that the peers announce"),
+            (1, "refused 9 too-many-pairs statement 1 now 2", "new:3:1", "Statement 2, new. It is compared with statement 1, at old:2:1."),
+            (1, "refused 9 too-many-pairs statement 1 now none", "old:2:1", "Statement 1, old, is compared with none."),
+            (1, "refused 9 too-many-pairs statement none now 1", "new:2:1", "Statement 1, new."),
+            (1, "refused 9 too-many-pairs statement 3 now 1", None, "1,048,576 steps"),
+        ]:
+            with self.subTest(line), mock.patch("words.hints.usage", lambda _: asked):
+                lines = hints_for(PROGRAM, status, f"propane: {line}\n".encode(), ["compare", "net.json", "old", "new"])
+                self.assertEqual([each.strip() for each in lines if each.strip() == place], [place] if place else [], lines)
+                self.assertIn(wanted, " ".join(" ".join(lines).split()))
+                self.assertIn("LANGUAGE.md" if status == 3 else "REFUSALS.md", " ".join(lines))
+        with mock.patch("words.hints.usage", lambda _: asked):
+            said = hints_for(PROGRAM, 3, b"propane: topology 1 not-json\n", ["compare", "old", "net.json", "new"])
+        self.assertEqual(said[0], "  old and net.json stand in each other's place: change them round.")
 
     def test_other_texts(self):
         for row, (command, text, line, place, wanted) in enumerate(OTHERS):

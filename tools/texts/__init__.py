@@ -10,6 +10,7 @@
     tokens       the tokens of a policy, with their places
     policy       a policy cut into its items, and its expressions into their parts
     cases        the cases of a policy, as the program counts them
+    comparison   what `compare` says of two policies
     scenario     what fails, and for which prefix that is asked
 
 The program judges these texts. What is read here was read by it or will be, so a fault is told only where a script would otherwise

@@ -8,7 +8,7 @@ from texts.faults import Fault
 from texts.policy import cut
 
 from .places import Text
-from .said import Hint, said_at
+from .said import Hint, said_of
 
 # What each line of a report says of its statement; {0} is a rank.
 MEANING = {
@@ -38,7 +38,5 @@ def hints(report: str, text: Text) -> Sequence[Hint]:
     shown = []
     for number, says in of_statements(report).items():
         if number <= len(statements):
-            statement = statements[number - 1]
-            length = (statement.ends or len(text.bytes)) - statement.begins
-            shown.append(said_at(text, statement.begins, length, f"Statement {number}. {says[0]}", *says[1:]))
+            shown.append(said_of(text, statements[number - 1], f"Statement {number}. {says[0]}", *says[1:]))
     return shown

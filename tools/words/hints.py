@@ -8,7 +8,7 @@ import re
 import stat
 import subprocess
 import textwrap
-from collections.abc import Callable, Mapping, Sequence
+from collections.abc import Callable, Iterable, Mapping, Sequence
 
 from texts import scenario
 from texts.cases import Case
@@ -16,7 +16,7 @@ from texts.policy import Statement
 from texts.prefixes import is_prefix
 from texts.statuses import BAD_INPUT, CHECK_FAILS, NO_MEMORY, READ_FAULT, REFUSED, USAGE, WRITE_FAULT
 
-from . import findings, policies, refusals, requests, topologies
+from . import changes, findings, policies, refusals, requests, topologies
 from .near import near
 from .places import Text, plain, text_of
 from .said import NOTHING, Hint, said
@@ -25,12 +25,12 @@ WIDTH = 80
 # What the fault of a text is called, and the word that names such a text in the usage line.
 KINDS = {
     "topology": "TOPO", "policy": "POLICY", "config": "CONFIG", "evidence": "EVIDENCE", "scenario": "SCENARIO", "events": "EVENTS",
-    "tables": "TABLES", "maps": "MAPS", "before config": "BEFORE", "after config": "AFTER",
+    "tables": "TABLES", "maps": "MAPS", "before config": "BEFORE", "after config": "AFTER", "old policy": "OLD", "new policy": "NEW",
 }
 CALLED = {
     "TOPO": "a topology", "POLICY": "a policy", "CONFIG": "a configuration", "EVIDENCE": "evidence", "SCENARIO": "a scenario",
     "EVENTS": "events", "TABLES": "tables", "MAPS": "route maps",
-    "BEFORE": "a configuration", "AFTER": "a configuration",
+    "BEFORE": "a configuration", "AFTER": "a configuration", "OLD": "a policy", "NEW": "a policy",
 }
 JSON_KEYS = {
     "TOPO": {"routers", "peers", "links"}, "EVIDENCE": {"cases", "version"}, "EVENTS": {"prefix", "events"}, "TABLES": {"routes"},
@@ -76,7 +76,7 @@ def changed_round(command: str, kinds: Sequence[str], texts: Mapping[int, Text])
     seems = {place: kind_of(text) for place, text in texts.items()}
     wrong = {place: kind for place, kind in seems.items() if kind and CALLED[kind] != CALLED[kinds[place]]}
     words = f"The words of {command} are {' '.join(kinds)}."
-    if len(wrong) > 1 and sorted(wrong.values()) == sorted(kinds[place] for place in wrong):
+    if len(wrong) > 1 and sorted(CALLED[kind] for kind in wrong.values()) == sorted(CALLED[kinds[place]] for place in wrong):
         names = " and ".join(texts[place].name() for place in wrong)
         return said(f"{names} stand in each other's place: change them round.", words)
     for place, kind in wrong.items():
@@ -129,7 +129,7 @@ def unread(word: str) -> Hint:
 
 def bad_input(line: str, command: str, kinds: Sequence[str], texts: Mapping[int, Text]) -> Hint:
     """The fault of a text."""
-    found = re.fullmatch(r"propane: ((?:before |after )?\w+) \d+ ([\w-]+)(?: (.*))?", line)
+    found = re.fullmatch(r"propane: ((?:before |after |old |new )?\w+) \d+ ([\w-]+)(?: (.*))?", line)
     if not found:
         return said("A text has at most 33,554,432 bytes.") if line.startswith("propane: too long ") else NOTHING
     of, word, values = found[1], found[2], (found[3] or "").split()
@@ -141,7 +141,7 @@ def bad_input(line: str, command: str, kinds: Sequence[str], texts: Mapping[int,
     if of == "topology":
         return topologies.hint(text, word, values).seeing("FORMATS.md", "Topology text")
     routers, peers = sites(kinds, texts) or ([], [])
-    if of == "policy":
+    if CALLED[KINDS[of]] == "a policy":
         return policies.hint(text, word, values, routers, peers).seeing("LANGUAGE.md", "What may be wrong")
     return requests.hint(of, text, word, values, [*routers, *peers]).seeing("FORMATS.md")
 
@@ -155,12 +155,14 @@ def sites(kinds: Sequence[str], texts: Mapping[int, Text]) -> tuple[list[str], l
 
 
 def refused(line: str, kinds: Sequence[str], texts: Mapping[int, Text], evidence_of: Callable[[bytes], str]) -> Hint:
-    """A refusal of a policy."""
-    found = re.fullmatch(r"propane: refused \d+ ([\w-]+)(?: (.*))?", line)
+    """A refusal of a policy, or of two that are compared."""
+    found = re.fullmatch(r"propane: (?:(old|new) )?refused \d+ ([\w-]+)(?: (.*))?", line)
     if not found:
         return NOTHING
-    word, values = found[1], (found[2] or "").split()
-    policy, known = next((text for place, text in texts.items() if kinds[place] == "POLICY"), None), sites(kinds, texts)
+    word, values, held = found[2], (found[3] or "").split(), {kinds[place]: text for place, text in texts.items()}
+    if word == "too-many-pairs" and {"OLD", "NEW"} <= held.keys():
+        return changes.pairs_hint(values, held["OLD"], held["NEW"], *refusals.MEANING[word]).seeing("REFUSALS.md", "The refusals")
+    policy, known = held.get((found[1] or "policy").upper()), sites(kinds, texts)
 
     def case_of(number: int) -> tuple[Case, Statement] | None:
         return refusals.case_at(policy, number, [*known[0], *known[1]], evidence_of) if policy and known else None
@@ -217,7 +219,11 @@ def hints_for(program: str, status: int, output: bytes, words: Sequence[str]) ->
 
 
 def places_for(report: bytes, words: Sequence[str]) -> list[str]:
-    """The lines that stand behind a report of `lint`: where the statements stand that it names. None behind other reports."""
-    text = text_of(words[2]) if words[:1] == ["lint"] and len(words) == 3 else None
-    found = findings.hints(report.decode("utf-8", "replace"), text) if text else []
+    """The lines that stand behind a report of `lint` or `compare`: where the statements stand that it names. None behind other reports."""
+    said, texts = report.decode("utf-8", "replace"), [text for text in map(text_of, words[2:]) if text]
+    found: Iterable[Hint] = ()
+    if words[:1] == ["lint"] and len(texts) == 1:
+        found = findings.hints(said, *texts)
+    elif words[:1] == ["compare"] and len(texts) == 2:
+        found = changes.hints(said, *texts)
     return [each for hint in found for line in hint.lines() for each in narrow(line)]

@@ -11,7 +11,7 @@ from texts.faults import Fault
 from texts.policy import Statement, cut
 
 from .places import Text, plain
-from .said import Hint, said, said_at
+from .said import Hint, said, said_of
 
 # Two sentences each; {0}, {1} .. are what the program's line tells behind the case.
 MEANING = {
@@ -28,6 +28,8 @@ MEANING = {
     "no-evidence": ["No preferences meet the compiler's rules: of the nodes at {0} to which the walks lead, no order will do.",
         "`explain` shows line by line which nodes are in each other's way; rank fewer things, or rank them alike at all routers."],
     "too-many-lines": ["The text would have {0} lines, and 1,000,000 are the most.", "Fewer patterns that overlap make fewer lines."],
+    "too-many-pairs": ["Up to these two statements there are more than 1,048,576 steps in which walks of the one or the other go on.",
+        "Split a statement by prefix, or make one change after the other and compare each."],
     "other-evidence": ["With what would stay by this evidence, nothing could take over: it is another configuration's.",
         "Name the evidence that was written for this configuration by `evidence` or `renewal`, or none."],
 }
@@ -75,6 +77,4 @@ def hint(word: str, values: Sequence[str], found: Callable[[int], tuple[Case, St
     case = found(number) if number and text else None
     if not case or not text:
         return said(*says)
-    statement = case[1]
-    length = (statement.ends or len(text.bytes)) - statement.begins
-    return said_at(text, statement.begins, length, f"Case {number}: this statement, for {told_of(case[0])}.", *says)
+    return said_of(text, case[1], f"Case {number}: this statement, for {told_of(case[0])}.", *says)

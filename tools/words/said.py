@@ -5,6 +5,8 @@ import os
 from collections.abc import Sequence
 from dataclasses import dataclass, replace
 
+from texts.policy import Statement
+
 from .places import Text, plain
 
 HERE = os.path.dirname(os.path.dirname(os.path.abspath(__file__)))
@@ -56,3 +58,8 @@ def said(*says: str, near: Sequence[str] = ()) -> Hint:
 def said_at(text: Text, at: int, length: int, *says: str, near: Sequence[str] = ()) -> Hint:
     """Sentences on a place of a text."""
     return Hint(tuple(each for each in says if each), text, at, length, tuple(near))
+
+
+def said_of(text: Text, statement: Statement, *says: str) -> Hint:
+    """Sentences on a statement of a text."""
+    return said_at(text, statement.begins, (statement.ends or len(text.bytes)) - statement.begins, *says)

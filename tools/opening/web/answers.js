@@ -104,6 +104,7 @@ export async function refresh(isWhole) {
     asked.push(askPromises(policy), askFindings(policy));
   }
   if (!chosen.prefix) await asked[0];
+  asked.push(...(view().asksOfTexts?.(policy) ?? []));
   if (chosen.prefix) asked.push(...view().asks(policy));
   else { answers.note = answers.fault ? noteOf(answers.fault) : "Choose a prefix"; show(); }
   await Promise.all(asked);

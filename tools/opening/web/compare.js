@@ -1,10 +1,11 @@
-// The view of what an edit changes, against the policy as its file has it: the reports of both, and what one more failure takes from
-// whom.
+// The view of what an edit changes, against the policy as its file has it: what `compare` says of both (differs.js), the reports of both,
+// and what one more failure takes from whom.
 
 import { clickOn } from "./actions.js";
 import * as api from "./api.js";
 import { answers, askReport, changesFrom } from "./answers.js";
-import { many } from "./dom.js";
+import { askComparison, comparisonShown, drawnWalk, dropWalk } from "./differs.js";
+import { el, many } from "./dom.js";
 import { show } from "./hub.js";
 import { changeRows, head, row, text, wideChip } from "./parts.js";
 import { cutsOf, reportOf } from "./read.js";
@@ -40,24 +41,36 @@ const cutRow = ({ id, name, lose, keep }) => row(name, [
   lose.length ? wideChip("none", `now lose it: ${lose.join(", ")}`) : null,
   keep.length ? wideChip("rank1", `now keep one: ${keep.join(", ")}`) : null], () => clickOn(id), id);
 
-function nothingSaid() {
-  if (chosen.policy === file.policy) return "Edit the policy: then this shows which routers change, against the file's.";
-  if (!answers.report) return "The edited policy isn't accepted.";
-  return held.report ? "" : "The policy as its file has it isn't accepted.";
+function routesShown(changed) {
+  if (!answers.report) return text("The edited policy isn't accepted: it has no routes.");
+  if (!held.report) return text("The policy as its file has it isn't accepted: it has no routes.");
+  return [
+    text(changed.length ? `${many(changed.length, "change")} under these failures. Ranks count each policy's own alternatives.`
+      : "No route changes under these failures."),
+    changeRows(changed)];
 }
 
 function list(changed) {
-  const nothing = nothingSaid();
-  if (nothing) return [head("Compare"), text(nothing)];
-  const rows = otherwiseLost();
+  if (chosen.policy === file.policy) return [head("Compare"), text("Edit the policy: then this shows what it changes, against the file's.")];
+  const rows = otherwiseLost(), hasCuts = held.oldCuts && held.newCuts;
   return [
-    head("As edited, against the file"),
-    text(changed.length ? `${many(changed.length, "change")} under these failures. Ranks count each policy's own alternatives.`
-      : "No route changes under these failures."),
-    changeRows(changed), head("Under one more failure"),
-    text(rows.length ? "Who loses every path, or doesn't any more:" : "The same sources keep a path under each single one."),
+    comparisonShown(), head("Routes, against the file's"), routesShown(changed), hasCuts ? head("Under one more failure") : null,
+    hasCuts ? text(rows.length ? "Who loses every path, or doesn't any more:" : "The same sources keep a path under each single one.") : null,
     rows.map(cutRow),
   ];
+}
+
+function forget() {
+  Object.assign(held, { report: null, oldCuts: null, newCuts: null });
+  dropWalk();
+}
+
+/** The walk that is drawn stands in the place of routes: in the colour of what is taken away, newly allowed, or in another order. */
+function paint() {
+  const drawn = drawnWalk();
+  if (!drawn) return { old: held.report };
+  const form = drawn.now === null ? "none" : drawn.old === null ? "warn" : "accent";
+  return { old: held.report, walk: { steps: drawn.walk, colour: `var(--${form})` } };
 }
 
 export const compare = {
@@ -65,8 +78,9 @@ export const compare = {
   said: "Compare",
   held,
   asks: (policy) => [askReport(policy), askOld(policy)],
-  forget: () => Object.assign(held, { report: null, oldCuts: null, newCuts: null }),
+  asksOfTexts: (policy) => [askComparison(policy)],
+  forget,
   changes: () => changesFrom(held.report),
-  paint: () => ({ old: held.report }),
-  list,
+  paint, list,
+  legend: () => (drawnWalk() ? [el("b", { class: "sign" }, "▸ the walk that is drawn")] : []),
 };

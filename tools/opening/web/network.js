@@ -32,9 +32,14 @@ const spreadArrows = ({ routers, sessions }) => [
   ...sessions.filter(({ hops }) => hops).map((each) => arrow(wayId(each.peer, each.router), each.peer, each, "offer", each.router)),
 ];
 
-/** Arrows to next hops, those of the old report where they differ, and what peers are offered. */
-function arrowsOf({ old, spread }) {
+/** Arrows along a walk, which may come to a router twice. */
+const walkArrows = ({ steps, colour }) =>
+  steps.slice(1).map((to, at) => ({ id: `step ${at + 1}`, from: steps[at], to, kind: "walk", colour }));
+
+/** Arrows to next hops, those of the old report where they differ, and what peers are offered; or a walk in the place of all. */
+function arrowsOf({ old, spread, walk }) {
   const { report } = answers;
+  if (walk) return walkArrows(walk);
   if (!report || view().hasNoArrows) return [];
   if (spread) return spreadArrows(spread);
   const isOther = ([name, standing]) => leads(standing) && !sameStanding(standing, report.routers.get(name));
@@ -63,7 +68,8 @@ function waysOf(name, { routers, sessions }) {
 function pathOf(name) {
   const along = (path, first) => path.slice(0, -1).map((each, k) => (k ? each : first));
   if (!answers.report || view().hasNoArrows) return [];
-  const { spread } = view().paint();
+  const { spread, walk } = view().paint();
+  if (walk) return [];
   if (spread) return waysOf(name, spread);
   const standing = answers.report.routers.get(name);
   if (standing) return along(standing.path, name);
@@ -140,7 +146,7 @@ function showNetwork() {
   showSites(changed, painted);
   showLinks(painted);
   picture.arrows.point(arrowsOf(painted));
-  picture.say(answers.report ? "" : answers.note);
+  picture.say(answers.report || painted.walk ? "" : answers.note);
   put(by("legend"), legend());
   showList(changed);
 }

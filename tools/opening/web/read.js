@@ -116,6 +116,49 @@ export function cutsOf(text) {
   return { cuts, last };
 }
 
+const emptyChange = (old, now) => ({ old, now, prefixes: [], origins: [], differs: [], carriers: [] });
+const numberOf = (word) => (word === "none" ? null : Number(word));
+
+/** Routers or sessions of a line: these, or all but these. */
+function namedOf(words) {
+  const areAll = words[0] === "all", kind = words[areAll ? 1 : 0], names = words.slice(areAll ? 3 : 1).join(" ");
+  return { kind, areAll, names: names ? names.split(kind === "sessions" ? ", " : " ") : [] };
+}
+
+/** Origins that are lost, kept or gained, or stay where no such word is told: the peers where no routers are named. */
+function originsOf(words) {
+  const word = ["lost", "kept", "gained"].includes(words[0]) ? words[0] : "", of = words.slice(word ? 1 : 0);
+  return { word, routers: of[0] === "peers" ? null : namedOf(of) };
+}
+
+const placesOf = (words) => ({ words, part: [], routers: null, sessions: null, rows: [] });
+const rowOf = ([old, , now, kind, ...walk]) => ({ old: numberOf(old), now: numberOf(now), isPath: kind === "path", walk });
+
+/** What a line says of a change. What names routers or sessions, or shows a walk, is of the places that were begun last. */
+function noteChange(change, places, line) {
+  const words = line.split(" "), [word, ...rest] = words;
+  if (word === "prefix") change.prefixes.push(rest.join(" "));
+  else if (word === "origins") change.origins.push(originsOf(rest));
+  else if (word === "differs" || word === "carriers") change[word].push(places = placesOf(rest));
+  else if (word === "only" || word === "but") places.part.push(line);
+  else if (word === "rank") places.rows.push(rowOf(rest));
+  else if (word) { const named = namedOf(words); places[named.kind] = named; }
+  return places;
+}
+
+/** What `compare` says of two policies: its changes, how many pairs of cases there are, and how many of them differ. */
+export function comparisonOf(text) {
+  const changes = [];
+  let places = null, cases = 0, changed = 0;
+  for (const line of text.split("\n")) {
+    const words = line.split(" ");
+    if (words[0] === "change") changes.push(emptyChange(numberOf(words[2]), numberOf(words[4])));
+    else if (words[0] === "cases") [cases, changed] = [Number(words[1]), Number(words[3])];
+    else places = noteChange(changes.at(-1), places, line);
+  }
+  return { changes, cases, changed };
+}
+
 /** Where a router or a peer sends packets: how it stands, and for a router to which neighbours. */
 function sending(words) {
   if (words.length === 1) return { state: words[0], rank: 0, hops: 0, next: [] };

@@ -1,10 +1,11 @@
 // The views. Each has:
 //   name, said      its word in the address, and on its button
 //   asks(policy)    asks the program what it shows: what `answers` holds, and what it keeps itself
+//   asksOfTexts(policy)  asks besides what is shown whatever prefix is chosen
 //   held            what it keeps
 //   forget()        drops that, where another prefix is chosen
 //   changes()       who stands otherwise, each with how it stood
-//   paint()         what the picture shows of it: heat, count, free, waiting, the old report, who loads, or where packets are spread
+//   paint()         what the picture shows of it: heat, count, free, waiting, the old report, who loads, where packets are spread, or a walk
 //   hasNoArrows     whether routes aren't drawn
 //   list(changed)   what the list on the right shows
 //   told(id)        a sentence on a router or link, for the inspector

@@ -8,7 +8,7 @@ from paging import TWO_EXITS, Paged
 
 # What a reader has found, as the table says it: the names that it fills, and nothing for those that stay empty.
 FOUND = """import('./read.js').then(m => %s.map(([reader, text]) => {
-  const r = m[{ report: 'reportOf', promises: 'promisesOf', cuts: 'cutsOf', free: 'freeOf', spread: 'spreadOf', waits: 'waitingOf' }[reader]](text), stands = (s) => [s.state, s.rank, s.path],
+  const r = m[{ report: 'reportOf', promises: 'promisesOf', cuts: 'cutsOf', free: 'freeOf', spread: 'spreadOf', waits: 'waitingOf', compared: 'comparisonOf' }[reader]](text), stands = (s) => [s.state, s.rank, s.path],
     sends = (s) => [s.state, s.rank, s.hops, s.next];
   const now = r.cases?.[0] ?? { prefixes: [], origins: [], unclaimed: [], routers: [], sessions: [], transit: [], unused: [] }, cut = r.cuts?.at(-1);
   const said = {
@@ -22,6 +22,13 @@ FOUND = """import('./read.js').then(m => %s.map(([reader, text]) => {
     free: () => ({ free: [...r.free], last: r.last }),
     spread: () => ({ routers: [...r.routers].map(([name, s]) => [name, ...sends(s)]), sessions: r.sessions.map((s) => [s.router, s.peer, ...sends(s)]),
       idle: [...r.idle], last: r.last }),
+    compared: () => {
+      const c = r.changes.at(-1), p = [...c?.differs ?? [], ...c?.carriers ?? []].at(-1), named = (n) => n && [n.areAll, n.names];
+      return { changes: r.changes.map((e) => [e.old, e.now]), prefixes: c?.prefixes, origins: c?.origins.map((o) => [o.word, named(o.routers)]),
+        differs: c?.differs.map((d) => d.words), part: p?.part, routers: named(p?.routers), sessions: named(p?.sessions),
+        rows: c?.differs.flatMap((d) => d.rows.map((w) => [w.old, w.now, w.isPath, w.walk])), carriers: c?.carriers.map((e) => e.words[0]),
+        last: r.cases ? [r.cases, r.changed] : null };
+    },
     waits: () => ({ waits: r.map((way) => [way.from, way.to, way.messages]) }),
   }[reader]();
   return Object.fromEntries(Object.entries(said).filter(([, each]) => each !== null && each !== undefined && each !== '' && each.length !== 0));

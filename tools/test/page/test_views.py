@@ -142,11 +142,3 @@ class OtherViews(Paged):
             self.click("#round")
         self.assertTrue(self.browser.eval("propane.answers.report.quiet"))
 
-    def test_compare(self) -> None:
-        self.open(*ABILENE)
-        self.click("[data-mode=compare]")
-        self.write("true => exit(East >> West >> any);\n")
-        self.assertIn("As edited, against the file11 changes", self.said("#view"))
-        self.assertEqual(self.browser.eval("document.querySelectorAll('.n-arrow.old').length"), 11)
-        self.click("#revert")
-        self.assertEqual(self.policy(), text_of(ABILENE[1]))

@@ -8,7 +8,8 @@ USAGE_LINE = ("propane: usage: compile TOPO POLICY, evidence TOPO POLICY, check 
           " routemap TOPO POLICY, checkmap CONFIG MAPS, lint TOPO POLICY, audit TOPO POLICY CONFIG EVIDENCE SCENARIO TABLES,"
           " help [COMMAND], version, drain TOPO POLICY SCENARIO, settle TOPO POLICY EVENTS, promises TOPO POLICY,"
           " whatif TOPO POLICY SCENARIO, multipath TOPO POLICY SCENARIO, maps CONFIG, between BEFORE AFTER STAGE,"
-          " renew TOPO POLICY CONFIG [EVIDENCE], renewal TOPO POLICY CONFIG [EVIDENCE], waiting TOPO POLICY EVENTS\n")
+          " renew TOPO POLICY CONFIG [EVIDENCE], renewal TOPO POLICY CONFIG [EVIDENCE], waiting TOPO POLICY EVENTS,"
+          " compare TOPO OLD NEW\n")
 
 VERSION = """\
 propane 2.0.0
