@@ -1,5 +1,5 @@
 mod Listed
 mod Places
 mod Agreeing
-mod Told
+pub mod Told
 mod One
