@@ -1,1 +1,3 @@
+pub mod KeptGraphs
+pub mod Placed
 pub mod Within

@@ -1,6 +1,5 @@
 -- The graph of each case of a policy, by what decides a prefix.
-use Rattle.std.specs.Prelude.{◌≡◌, ◌≢◌, ◌⊎◌, ℕ, IsTrue, List, [], Option, Some, None, unwrap_or}
-use Rattle.std.specs.Option.{option_map}
+use Rattle.std.specs.Prelude.{◌≡◌, ℕ, [], Some, None, unwrap_or, if◌then◌else◌}
 use Rattle.indexmap.specs.IndexMap.{get}
 use Rattle.net_base.specs.Network.{PlainNet}
 use Rattle.policy_base.specs.declared.case.Case.{Case}

@@ -4,9 +4,7 @@
 mod graphs;
 mod laws;
 mod refusal;
-mod within;
 
-pub use graphs::{CaseGraphs, case_graphs};
+pub use graphs::{CaseGraphs, case_graphs, prefix_case};
 pub use laws::{cases_within_limits_are_not_refused, refusals_for_limits_exclude_one_another};
 pub use refusal::{LimitRefusal, compile_refusal};
-pub use within::case_within;

@@ -1,8 +1,6 @@
 -- In what the pairs of a group differ, for whom, and who carries in one policy alone.
-use Rattle.std.specs.Prelude.{ℕ, Bool, true, false, not, ◌&&◌, ◌==◌, nat_eq, nat_lt, List, [], ◌∷◌, ◌++◌, codes, filter, length, Some, None, if◌then◌else◌}
+use Rattle.std.specs.Prelude.{ℕ, Bool, not, ◌&&◌, ◌==◌, nat_lt, List, [], ◌∷◌, ◌++◌, codes, filter, length, Some, None, if◌then◌else◌}
 use Rattle.std.specs.List.{count_by, flat_map, list_any}
-use Rattle.std.specs.Option.{option_eq}
-use Rattle.std.proofs.Math.Bool.{beq}
 use lib.Pointwise.{pointwise}
 use Rattle.net_base.specs.Network.{PlainNet}
 use Rattle.net_base.specs.Prefixes.{PlainPrefix}
@@ -10,16 +8,15 @@ use Rattle.policy_base.specs.Walks.{is_loop_free}
 use Rattle.compare_base.specs.Cases.{is_originated, is_place}
 use Rattle.compare_base.specs.declared.rows.Kind.{Kind}
 use Rattle.compare_base.specs.declared.rows.Place.{Place}
-use Rattle.compare_base.specs.declared.rows.Row.{Row}
 use Rattle.compare_base.specs.declared.rows.Words.{Words}
 use Rattle.compare_base.specs.declared.rows.Words.TheVariants.{Partly, Unclaimed, Claimed, Replaced}
+use Rattle.compare_base.specs.Same.{same_place, same_row, same_words}
 use Rattle.comparison.specs.declared.values.ComparedPair.{ComparedPair}
 use Rattle.compare_report.specs.declared.carriers.Carrying.{Carrying}
 use Rattle.compare_report.specs.declared.carriers.Carrying.TheVariants.{Lost, Gained}
 use Rattle.compare_lines.specs.Lists.{all_routers, routers_line, sessions_of, sessions_text}
 use Rattle.compare_report.specs.Groups.{part_lines}
 use Rattle.compare_lines.specs.Rows.{row_lines}
-use Rattle.compare_base.specs.Same.{same_place, same_row, same_words}
 
 -- ---- the same kind at several pairs
 

@@ -1,11 +1,11 @@
 //! Who carries in one policy alone.
 ghost use Rattle.std.specs.Prelude.{◌≡◌, ◌||◌, ◌==◌, ℕ, IfOk, OnOk, filter, not};
 ghost use Rattle.std.specs.List.{list_any};
+ghost use Rattle.compare_base.specs.Same.{same_place};
 ghost use Rattle.indexmap.specs.IndexSet.{contains};
 ghost use Rattle.comparison.specs.declared.values.ComparedPair.{ComparedPair as PlainPair};
 ghost use Rattle.compare_report.specs.Groups.{seen};
 ghost use Rattle.compare_report.specs.Kinds.{carriers_of, has_carriers as has_carriers_in, is_carrier, router_place};
-ghost use Rattle.compare_base.specs.Same.{same_place};
 
 use crate::kinds::Split;
 use compare_base::Place;

@@ -1,13 +1,13 @@
 //! The same kind of difference at several pairs: at which it is, and at which of their places.
-ghost use Rattle.std.specs.Prelude.{◌≡◌, ◌||◌, ◌&&◌, ◌++◌, ℕ, IfOk, OnOk, filter, not};
+ghost use Rattle.std.specs.Prelude.{◌≡◌, ◌||◌, ◌&&◌, IfOk, OnOk, filter, not};
 ghost use Rattle.std.specs.List.{count_by, list_any};
 ghost use Rattle.indexmap.specs.IndexSet.{contains};
 ghost use Rattle.policy_base.specs.Walks.{is_loop_free as loop_free};
 ghost use Rattle.compare_base.specs.declared.rows.Place.{Place as PlainPlace};
+ghost use Rattle.compare_base.specs.Same.{same_place};
 ghost use Rattle.comparison.specs.declared.values.ComparedPair.{ComparedPair as PlainPair};
 ghost use Rattle.compare_report.specs.Groups.{seen};
 ghost use Rattle.compare_report.specs.Kinds.{example_walks, has_kind as has_kind_in, has_place, is_one, same_kind as same_kind_in, walks_in as walks_of_kinds, with_more_paths};
-ghost use Rattle.compare_base.specs.Same.{same_place};
 
 use compare_base::{Kind, Place};
 use comparison::{ComparedPair, same_rows, same_words};

@@ -1,9 +1,8 @@
 //! The order in which originated prefixes are told.
-ghost use Rattle.std.specs.Prelude.{◌≡◌, ◌++◌, ◌||◌, IfOk, OnOk, filter, map, not};
+ghost use Rattle.std.specs.Prelude.{◌≡◌, ◌++◌, IfOk, OnOk, filter, not};
 ghost use Rattle.std.specs.List.{list_any};
 ghost use Rattle.indexmap.specs.IndexSet.{contains};
 ghost use Rattle.net_base.specs.Prefixes.{PlainPrefix, same_prefix};
-ghost use Rattle.policy_base.specs.declared.policy.Origin.{Origin as PlainOrigin};
 ghost use Rattle.policy_base.specs.Policies.{policy_of};
 ghost use Rattle.compare_report.specs.Groups.{originated_prefixes, prefixes_of as prefixes_in};
 

@@ -1,15 +1,14 @@
 //! For whom something is so. Each `push_` function adds a text to the end of another.
-ghost use Rattle.std.specs.Prelude.{◌≡◌, ◌++◌, ◌&&◌, ◌<◌, [], ℕ, Bool, None, IfOk, OnOk, filter, length, not};
-ghost use Rattle.std.specs.List.{list_any};
+ghost use Rattle.std.specs.Prelude.{◌≡◌, ◌++◌, ◌&&◌, ◌<◌, [], ℕ, None, IfOk, OnOk, filter, not};
 ghost use Rattle.indexmap.specs.IndexSet.{contains};
 ghost use Rattle.policy_base.specs.Governing.{is_origin_by};
 ghost use Rattle.compare_base.specs.Cases.{is_place as is_place_of};
 ghost use Rattle.compare_base.specs.declared.rows.Place.{Place as PlainPlace};
+ghost use Rattle.compare_base.specs.Same.{same_place};
 ghost use Rattle.compare_report.specs.Groups.{seen};
 ghost use Rattle.compare_lines.specs.Lists.{routers_line};
 ghost use Rattle.compare_lines.specs.Lists.{sessions_of as sessions_in};
 ghost use Rattle.compare_report.specs.Kinds.{have_sessions as have_sessions_in, is_carrier, is_one, is_router_place as is_router_place_in, place_lines, router_place, router_places as router_places_in, session_place, sessions_line};
-ghost use Rattle.compare_base.specs.Same.{same_place};
 
 use crate::carriers::{Carrying, carrier_set};
 use crate::groups::is_originated;

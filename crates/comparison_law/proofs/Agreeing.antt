@@ -1,8 +1,7 @@
 -- The rows of a place agree exactly where the place differs in no words.
-use Rattle.std.proofs.Common.{◌≡◌, ℕ, ◌<◌, ◌≤◌, Bool, true, false, List, Option, Some, None, refl, sym, ap, ◌∙◌, subst, arith, inl, inr, ◌↔◌}
-use Rattle.std.specs.Prelude.{◌⊎◌, ◌&&◌, ◌||◌, ◌≢◌, IsTrue, is_some, nat_lt, not}
-use Rattle.std.proofs.lemmas.Bool.{cases_Bool, cases_lt, lt-ltb, le-ltb, ltb-true, true≢false, false≢true}
-use Rattle.list_law.specs.Members.{IsIn}
+use Rattle.std.proofs.Common.{◌≡◌, ℕ, ◌≤◌, Bool, true, false, List, Option, Some, None, refl, sym, ◌∙◌, arith, inl, inr, ◌↔◌}
+use Rattle.std.specs.Prelude.{◌&&◌, ◌||◌, ◌≢◌, IsTrue, is_some, nat_lt}
+use Rattle.std.proofs.lemmas.Bool.{cases_lt, lt-ltb, le-ltb, ltb-true, true≢false, false≢true}
 use Rattle.list_law.proofs.Options.{cases_Option}
 use Rattle.list_law.proofs.Truth.{same_tests}
 use Rattle.net_base.specs.Network.{PlainNet}
@@ -15,7 +14,7 @@ use Rattle.compare_base.specs.Ranks.{HasRow}
 use Rattle.compare_law.specs.Laws.{RowsAgree}
 use Rattle.pair_rows.specs.Rows.{AreRows}
 use Rattle.row_words.specs.Agreeing.{Agree, AreRows as AreSome}
-use Rattle.row_words.specs.Clashes.{apart, both_ranks, clashes, is_common, pairs_differ, ranks_differ}
+use Rattle.row_words.specs.Clashes.{apart, clashes, is_common, ranks_differ}
 use Rattle.row_words.specs.WordsOfRows.{shown_rows, words_of}
 use Rattle.row_words.proofs.Agreements.{from_agree, to_agree}
 use Rattle.pair_changes.specs.Changes.{Differs, IsPlace}

@@ -1,6 +1,6 @@
 -- The rows of a place are not without a list.
-use Rattle.std.proofs.Common.{◌≡◌, ℕ, ◌+◌, Bool, List, Option, Some, None, refl, sym, ap, ◌∙◌, arith, ◌↔◌}
-use Rattle.std.specs.Prelude.{◌++◌, if◌then◌else◌}
+use Rattle.std.proofs.Common.{◌≡◌, ℕ, ◌+◌, List, Option, Some, None, arith}
+use Rattle.std.specs.Prelude.{◌++◌}
 use Rattle.list_law.specs.Members.{IsIn}
 use Rattle.list_law.proofs.Options.{when_parts}
 use Rattle.net_base.specs.Network.{PlainNet}
@@ -13,7 +13,7 @@ use Rattle.policy_base.proofs.RankPlaces.{length-alternatives, place_of-within}
 use Rattle.impact_law.specs.Impacts.{begin_at}
 use Rattle.compare_base.specs.declared.rows.Place.{Place}
 use Rattle.compare_base.specs.declared.rows.Row.{Row}
-use Rattle.compare_base.specs.Ranks.{HasRow, rank_by, rank_for}
+use Rattle.compare_base.specs.Ranks.{HasRow, rank_by}
 use Rattle.pair_rows.specs.Rows.{AreRows}
 use Rattle.comparison_law.proofs.Listed.{AreThose, IsBelow, among_some, in_order, listed, some_rows, some_rows_ascend}
 

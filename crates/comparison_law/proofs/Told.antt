@@ -10,7 +10,6 @@ use Rattle.list_law.specs.Members.{IsIn}
 use Rattle.list_law.proofs.Members.{IsIn-map_parts, IsIn-map, IsIn-filter, IsIn-nil}
 use Rattle.net_base.specs.declared.loc.LocSet.{LocSet}
 use Rattle.net_base.specs.Network.{PlainNet, IsNet, is_peer}
-use Rattle.net_base.specs.NetSets.{peers}
 use Rattle.net_base.specs.Prefixes.{PlainPrefix, IsPrefix}
 use Rattle.net_base.specs.Sets.{IsWords, holds, same_set}
 use Rattle.net_base.proofs.NetSetLaws.{holds-peers}
@@ -19,7 +18,7 @@ use Rattle.policy_base.specs.Policies.{PlainPolicy}
 use Rattle.policy_base.specs.Governing.{is_origin_by, originated_at}
 use Rattle.evidence_law.proofs.ClassFound.{originated_by}
 use Rattle.compare_base.specs.Cases.{is_place, pair_for, says_something}
-use Rattle.compare_base.specs.Ranks.{IsAlike, IsSame}
+use Rattle.compare_base.specs.Ranks.{IsAlike}
 use Rattle.compare_base.specs.declared.cases.CasePair.{CasePair}
 use Rattle.compare_base.specs.declared.pairs.Pair.{Pair}
 use Rattle.compare_base.specs.declared.rows.Kind.{Kind}
@@ -30,8 +29,7 @@ use Rattle.compare_law.proofs.Unsaid.{nothing_said}
 use Rattle.comparison.specs.Changed.{have_same_origins, is_changed, is_nothing, origin_set}
 use Rattle.comparison.specs.declared.values.ComparedPair.{ComparedPair}
 use Rattle.pair_changes.specs.Changes.{IsPairChange}
-use Rattle.comparison_law.specs.Comparisons.{IsComparison}
-use Rattle.comparison_law.specs.Laws.{HaveSets, IsUntold, SamePoliciesAreUnchanged, ToldPairsDiffer, UnchangedPoliciesAreSame, UnchangedPoliciesAreServedAlike, UntoldPrefixesAreAlike}
+use Rattle.comparison_law.specs.Laws.{HaveSets, SamePoliciesAreUnchanged, ToldPairsDiffer, UnchangedPoliciesAreSame, UnchangedPoliciesAreServedAlike, UntoldPrefixesAreAlike}
 use Rattle.comparison_law.proofs.Agreeing.{rows_agree, rows_differ}
 
 -- ---- origins

@@ -1,5 +1,5 @@
 -- What is found of a pair of cases is what changes for its prefixes.
-use Rattle.std.proofs.Common.{◌≡◌, ℕ, ◌<◌, true, List, filter, sym, ap, ◌∙◌, subst, arith, inl, inr, Option, Some, None}
+use Rattle.std.proofs.Common.{◌≡◌, ℕ, ◌<◌, true, List, filter, sym, ap, ◌∙◌, subst, arith, Option, Some}
 use Rattle.std.specs.Prelude.{option_map, slice_get}
 use Rattle.std.proofs.lemmas.Option.{slice_get_within}
 use Rattle.list_law.specs.Members.{IsIn}
@@ -10,7 +10,6 @@ use Rattle.net_base.specs.Network.{PlainNet}
 use Rattle.net_base.specs.Prefixes.{PlainPrefix}
 use Rattle.policy_base.specs.Policies.{PlainPolicy}
 use Rattle.graph_base.specs.Graphs.{PlainGraph}
-use Rattle.impact_law.proofs.OneImpact.{one_list}
 use Rattle.pair_graph.specs.declared.pair.NodePair.{NodePair}
 use Rattle.compare_base.specs.declared.rows.Kind.{Kind}
 use Rattle.compare_base.specs.declared.rows.Place.{Place}
@@ -20,44 +19,20 @@ use Rattle.compare_base.specs.Cases.{pair_for}
 use Rattle.compare_base.specs.Ranks.{IsFirstWalk}
 use Rattle.pair_rows.specs.declared.values.FirstRow.{FirstRow}
 use Rattle.pair_rows.specs.Meetings.{AreFirst, all_mets, mets_at, rows_alone}
-use Rattle.pair_rows.specs.Rows.{AreCompared, AreRows, IsEarlier, IsLess, from_peer}
+use Rattle.pair_rows.specs.Rows.{AreCompared, AreRows, from_peer}
+use Rattle.pair_rows.proofs.EarlierRows.{rows_are_one}
 use Rattle.pair_rows.proofs.FirstWalks.{first_walks, rows_are}
 use Rattle.row_words.specs.WordsOfRows.{shown_rows, words_of}
 use Rattle.pair_changes.specs.declared.ways.Way.{Way}
-use Rattle.pair_changes.specs.Changes.{AreCarriers, AreFirstWalks, AreInOrder, ComesBefore, ComesFirst, Differs, IsKind, IsPairChange, IsPlace}
+use Rattle.pair_changes.specs.Changes.{AreCarriers, AreFirstWalks, AreInOrder, ComesBefore, ComesFirst, Differs, IsExample, IsKind, IsPairChange, IsPlace}
 use Rattle.pair_changes.specs.Kinds.{AreKinds, differs_so, way_by}
 use Rattle.pair_changes.specs.Places.{ArePlaces}
 use Rattle.pair_changes.specs.Walks.{AreAllShown, AreWalks, IsShown}
+use Rattle.pair_changes.proofs.Examples.{example_by}
 use Rattle.pair_changes.proofs.InOrder.{order_filter}
 use Rattle.pair_changes.proofs.KindTests.{of_from, of_parts, so_parts}
 
--- ---- rows of a place are one list
-
-less_apart : (a : Option ℕ) → IsLess a a → ⊥
-less_apart (Some i) less = absurd (omega (arith, less))
-less_apart None less = less
-
-less_through : (a b c : Option ℕ) → IsLess a b → IsLess b c → IsLess a c
-less_through (Some i) (Some j) (Some k) one other = omega (arith, one, other)
-less_through (Some i) (Some j) None one other = tt
-less_through (Some i) None c one other = absurd other
-less_through None b c one other = absurd one
-
-row_apart : (a : Row) → IsEarlier a a → ⊥
-row_apart a (inl t) = less_apart a.old t
-row_apart a (inr t) = less_apart a.new t.1
-
-row_through : (a b c : Row) → IsEarlier a b → IsEarlier b c → IsEarlier a c
-row_through a b c (inl t) (inl u) = inl (less_through a.old b.old c.old t u)
-row_through a b c (inl t) (inr u) = inl (subst (IsLess a.old) u.0 t)
-row_through a b c (inr t) (inl u) = inl (subst (λ o. IsLess o c.old) (sym t.0) u)
-row_through a b c (inr t) (inr u) = inr (t.0 ∙ u.0, less_through a.new b.new c.new t.1 u.1)
-
 module _ (net : PlainNet) (old new : PlainPolicy) (p : PlainPrefix) where
-  rows_are_one : (place : Place) (xs ys : List Row) → AreRows net old new p place xs → AreRows net old new p place ys → xs ≡ ys
-  rows_are_one place xs ys one other =
-      one_list IsEarlier row_apart row_through xs ys one.order other.order (λ row at. (other.those row).1 ((one.those row).0 at)) (λ row at. (one.those row).1 ((other.those row).0 at))
-
   module _ (g h both : PlainGraph) (pairs : List NodePair) (are : AreCompared net old new p g h pairs both) (firsts : Place → List FirstRow)
       (met : (place : Place) → AreFirst (mets_at (all_mets g h pairs both) place) (firsts place)) where
     abbrev way : Place → Option Way
@@ -70,7 +45,7 @@ module _ (net : PlainNet) (old new : PlainPolicy) (p : PlainPrefix) where
 
     way_of : (words : Words) (shown : List Row) (place : Place) → Differs net old new p words shown place → way place ≡ Some (record { words = words; rows = shown })
     way_of words shown place d =
-        let same : d.rows ≡ rows_alone (firsts place) = rows_are_one place d.rows (rows_alone (firsts place)) d.are_rows (rows_at place) in
+        let same : d.rows ≡ rows_alone (firsts place) = rows_are_one net old new p place d.rows (rows_alone (firsts place)) d.are_rows (rows_at place) in
         ap way_by (sym same) ∙ ap (option_map (λ (w : Words). record { words = w; rows = shown_rows d.rows })) d.in_words
         ∙ ap (λ (xs : List Row). Some (record { words = words; rows = xs })) (sym d.are_shown)
 
@@ -120,11 +95,10 @@ module _ (net : PlainNet) (old new : PlainPolicy) (p : PlainPrefix) where
         is_kind = record {
           places = λ place. (differs_there place, there_differs place);
           order = subst AreInOrder (sym (is.places ∙ grouped.each a at)) (order_filter ComesFirst (λ q. differs_so a (way q)) places all.order);
-          example = (
-            is.example.0,
-            subst (λ (ps : List Place). IsIn ps is.example.0) (sym is.places) is.example.1,
-            subst (λ (xs : List Row). AreFirstWalks net old new p is.example.0 xs b.walks) (sym is.rows) (walks_are is.example.0 b.walks is.example.2),
-          );
+          example =
+              subst (λ (ps : List Place). IsExample (λ place. AreFirstWalks net old new p place b.rows) ps b.walks) (sym is.places)
+              (subst (λ (xs : List Row). IsExample (λ place. AreFirstWalks net old new p place xs) a.places b.walks) (sym is.rows)
+              (example_by (λ place. AreWalks both (firsts place) place.peer a.rows) (λ place. AreFirstWalks net old new p place a.rows) a.places b.walks walks_are is.example));
         }
 
       -- ---- all kinds

@@ -8,10 +8,10 @@ use Rattle.compare_base.specs.declared.rows.Kind.{Kind}
 use Rattle.compare_base.specs.declared.rows.Row.{Row}
 use Rattle.compare_base.specs.declared.rows.Words.{Words}
 use Rattle.compare_base.specs.declared.rows.Words.TheVariants.{Partly, Unclaimed, Claimed, Replaced}
+use Rattle.compare_base.specs.Same.{same_row, same_words}
 use Rattle.place_rows.proofs.Order.{row_is, row_same}
 use Rattle.pair_changes.specs.declared.ways.Way.{Way}
 use Rattle.pair_changes.specs.Kinds.{differs_so, is_of}
-use Rattle.compare_base.specs.Same.{same_row, same_words}
 
 beq_is : (a b : Bool) → beq a b ≡ true → a ≡ b
 beq_is true true is = refl

@@ -7,5 +7,6 @@ mod Carrying
 mod Changed
 mod Shows
 mod WalkLists
+mod Examples
 mod Needed
 mod Whole

@@ -12,6 +12,7 @@ use Rattle.compare_base.specs.declared.rows.Kind.{Kind}
 use Rattle.compare_base.specs.declared.rows.Place.{Place}
 use Rattle.compare_base.specs.declared.rows.Row.{Row}
 use Rattle.compare_base.specs.declared.rows.Words.{Words}
+use Rattle.compare_base.specs.Same.{same_row}
 use Rattle.pair_rows.specs.declared.values.FirstRow.{FirstRow}
 use Rattle.pair_rows.specs.Meetings.{AreFirst, all_mets, is_at, mets_at, node_mets, rows_alone, step_mets}
 use Rattle.pair_rows.proofs.RowsMet.{node_met_parts, step_met_parts}
@@ -20,7 +21,6 @@ use Rattle.row_words.specs.WordsOfRows.{is_shown, shown_rows, words_of}
 use Rattle.pair_changes.specs.declared.ways.Way.{Way}
 use Rattle.pair_changes.specs.Kinds.{AreKinds, differs_so, way_by}
 use Rattle.pair_changes.proofs.KindTests.{of_parts, so_parts}
-use Rattle.compare_base.specs.Same.{same_row}
 
 pub nodes_within : (g h both : PlainGraph) (pairs : List NodePair) (firsts : List FirstRow) (place : Place) (x : FirstRow) → length pairs ≡ length both.nodes
     → AreFirst (mets_at (all_mets g h pairs both) place) firsts → IsIn firsts x → x.node < length both.nodes

@@ -1,28 +1,28 @@
 -- Walks of rows, and kinds with their walks, one after the other.
-use Rattle.std.proofs.Common.{◌≡◌, ◌⊎◌, ℕ, zero, suc, ◌+◌, ◌<◌, ◌≤◌, List, [], ◌∷◌, ◌++◌, get_or, length, length-append, take, refl, sym, ap, ◌∙◌, subst, subst₂, arith, inl, inr, Some}
+use Rattle.std.proofs.Common.{◌≡◌, ℕ, zero, suc, ◌+◌, ◌<◌, ◌≤◌, List, [], ◌∷◌, ◌++◌, get_or, length, length-append, take, refl, sym, ap, ◌∙◌, subst, subst₂, arith, inl, inr, Some}
 use Rattle.std.specs.Prelude.{Option, slice_get}
 use Rattle.std.proofs.lemmas.Bool.{cases_lt}
 use Rattle.std.proofs.lemmas.Option.{same_Some}
 use Rattle.group_law.proofs.Taken.{take_next}
-use Rattle.list_law.specs.Members.{IsIn}
 use Rattle.list_law.proofs.Items.{from_front}
 use Rattle.graph_base.specs.Graphs.{PlainGraph}
 use Rattle.compare_base.specs.declared.rows.Kind.{Kind}
 use Rattle.compare_base.specs.declared.rows.Place.{Place}
 use Rattle.compare_base.specs.declared.rows.Row.{Row}
 use Rattle.pair_rows.specs.declared.values.FirstRow.{FirstRow}
-use Rattle.pair_changes.specs.Walks.{AreAllShown, AreWalks, IsExample, IsShown, IsWalkOf}
+use Rattle.pair_changes.specs.Walks.{AreAllShown, AreWalks, IsShown, IsWalkOf}
+
+-- what stands behind the others is the last item
+pub only : {C : Type 0} (zs : List C) (z : C) (i : ℕ) (w : C) → slice_get (zs ++ z ∷ []) i ≡ Some w → length zs ≤ i → z ≡ w
+only [] z zero w at past = same_Some z w at
+only [] z (suc i) w at past = absurd cc
+only (y ∷ ys) z zero w at past = absurd (omega (arith, past))
+only (y ∷ ys) z (suc i) w at past = only ys z i w at (omega (arith, past))
 
 -- two lists whose items belong together in order, with one more in each
 module _ {A B : Type 0} (Fits : A → B → Type 0) where
   abbrev pub Fit : List A → List B → Type 0
   Fit xs ys = (i : ℕ) (x : A) (y : B) → slice_get xs i ≡ Some x → slice_get ys i ≡ Some y → Fits x y
-
-  only : {C : Type 0} (zs : List C) (z : C) (i : ℕ) (w : C) → slice_get (zs ++ z ∷ []) i ≡ Some w → length zs ≤ i → z ≡ w
-  only [] z zero w at past = same_Some z w at
-  only [] z (suc i) w at past = absurd cc
-  only (y ∷ ys) z zero w at past = absurd (omega (arith, past))
-  only (y ∷ ys) z (suc i) w at past = only ys z i w at (omega (arith, past))
 
   pub fit_more : (xs : List A) (ys : List B) (x : A) (y : B) → length ys ≡ length xs → Fit xs ys → Fits x y → Fit (xs ++ x ∷ []) (ys ++ y ∷ [])
   fit_more xs ys x y size all last i a b at_a at_b = elim (cases_lt i (length xs)) [
@@ -59,9 +59,3 @@ module _ (g : PlainGraph) (firsts : Place → List FirstRow) where
         count = length-append kinds (b ∷ []) ∙ ap (λ k. k + 1) so_far.count ∙ sym (length-append (take n bare) (a ∷ []));
         each = fit_more (IsShown g firsts) (take n bare) kinds a b so_far.count so_far.each last;
       })
-
-  -- the walks of one of some places, or those of another
-  pub example_more : (places : List Place) (rows : List Row) (walks others better : List (List ℕ)) (place : Place) → IsExample g firsts places rows walks → IsIn places place
-      → AreWalks g (firsts place) place.peer rows others → (better ≡ walks) ⊎ (better ≡ others) → IsExample g firsts places rows better
-  example_more places rows walks others better place was at are (inl t) = subst (IsExample g firsts places rows) (sym t) was
-  example_more places rows walks others better place was at are (inr t) = (place, at, subst (AreWalks g (firsts place) place.peer rows) (sym t) are)

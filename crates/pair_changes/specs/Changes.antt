@@ -1,9 +1,11 @@
 -- What two policies change for a prefix: in what its places differ, which walks show it, and who carries in one policy alone.
-use Rattle.std.specs.Prelude.{◌≡◌, ◌↔◌, ℕ, ◌<◌, IsTrue, IsSome, List, length, slice_get, Some, None}
+use Rattle.std.specs.Prelude.{◌≡◌, ◌↔◌, ℕ, ◌<◌, ◌≤◌, IsTrue, IsSome, List, length, slice_get, Some, None}
+use Rattle.std.specs.List.{count_by}
 use Rattle.list_law.specs.Members.{IsIn}
 use Rattle.net_base.specs.Network.{PlainNet}
 use Rattle.net_base.specs.Prefixes.{PlainPrefix}
 use Rattle.policy_base.specs.Policies.{PlainPolicy}
+use Rattle.policy_base.specs.Walks.{is_loop_free}
 use Rattle.impact_law.specs.Impacts.{Precedes}
 use Rattle.compare_base.specs.declared.rows.Kind.{Kind}
 use Rattle.compare_base.specs.declared.rows.PairChange.{PairChange}
@@ -43,11 +45,25 @@ pub record AreFirstWalks (net : PlainNet) (old new : PlainPolicy) (p : PlainPref
   pub each : (i : ℕ) (row : Row) (walk : List ℕ) → slice_get rows i ≡ Some row → slice_get walks i ≡ Some walk
       → IsFirstWalk net old new p place.router place.peer row walk
 
--- All places that differ in the same words and show the same rows, in order, and the walks of one of them.
+-- how many of the walks have no loop
+abbrev pub paths : List (List ℕ) → ℕ
+paths walks = count_by is_loop_free walks
+
+-- Each of some places has walks, and these are those of the first place, in order, of whose walks most have no loop.
+pub record IsExample (Has : Place → List (List ℕ) → Type 0) (places : List Place) (walks : List (List ℕ)) : Type 0 where
+  pub index : ℕ
+  pub place : Place
+  pub there : slice_get places index ≡ Some place
+  pub has : Has place walks
+  pub most : (i : ℕ) (other : Place) → slice_get places i ≡ Some other → (theirs : List (List ℕ)) × Has other theirs × (paths theirs ≤ paths walks)
+  pub first : (i : ℕ) (other : Place) → i < index → slice_get places i ≡ Some other → (theirs : List (List ℕ)) × Has other theirs × (paths theirs < paths walks)
+
+-- All places that differ in the same words and show the same rows, in order, and the first walks of the first of them that shows most rows
+-- by walks without a loop.
 pub record IsKind (net : PlainNet) (old new : PlainPolicy) (p : PlainPrefix) (kind : Kind) : Type 0 where
   pub places : (place : Place) → IsIn kind.places place ↔ Differs net old new p kind.words kind.rows place
   pub order : AreInOrder kind.places
-  pub example : (place : Place) × IsIn kind.places place × AreFirstWalks net old new p place kind.rows kind.walks
+  pub example : IsExample (λ place. AreFirstWalks net old new p place kind.rows) kind.places kind.walks
 
 -- the first place of a kind comes before that of another
 abbrev pub ComesBefore : Kind → Kind → Type 0

@@ -1,18 +1,15 @@
 -- Places that are grouped by how they differ.
 use Rattle.std.specs.Prelude.{◌≡◌, ℕ, ◌<◌, Bool, true, false, ◌&&◌, List, filter, option_map, slice_get, Option, Some}
 use Rattle.std.specs.Option.{option_map_or}
-use Rattle.std.proofs.Math.Bool.{beq}
 use lib.Pointwise.{pointwise}
 use Rattle.list_law.specs.Members.{IsIn}
 use Rattle.compare_base.specs.declared.rows.Kind.{Kind}
 use Rattle.compare_base.specs.declared.rows.Place.{Place}
 use Rattle.compare_base.specs.declared.rows.Row.{Row}
-use Rattle.compare_base.specs.declared.rows.Words.{Words}
-use Rattle.compare_base.specs.declared.rows.Words.TheVariants.{Partly, Unclaimed, Claimed, Replaced}
+use Rattle.compare_base.specs.Same.{same_row, same_words}
 use Rattle.row_words.specs.WordsOfRows.{shown_rows, words_of}
 use Rattle.pair_changes.specs.declared.ways.Way.{Way}
 use Rattle.pair_changes.specs.Changes.{ComesBefore}
-use Rattle.compare_base.specs.Same.{same_row, same_words}
 
 -- how a place with these rows differs, if it does
 abbrev pub way_by : List Row → Option Way

@@ -4,3 +4,4 @@ pub mod Places
 pub mod Kinds
 pub mod Walks
 pub mod Carriers
+pub mod Steps

@@ -8,6 +8,7 @@ use Rattle.compare_base.specs.declared.rows.Place.{Place}
 use Rattle.compare_base.specs.declared.rows.Row.{Row}
 use Rattle.pair_rows.specs.declared.values.FirstRow.{FirstRow}
 use Rattle.pair_rows.specs.Rows.{from_peer}
+use Rattle.pair_changes.specs.Changes.{IsExample}
 
 -- the walk by which the node of a row is shown, from the peer where the place is a session
 abbrev pub IsWalkFrom : PlainGraph → Option ℕ → ℕ → List ℕ → Type 0
@@ -22,16 +23,12 @@ pub record AreWalks (g : PlainGraph) (firsts : List FirstRow) (peer : Option ℕ
   pub count : length walks ≡ length rows
   pub each : (i : ℕ) (row : Row) (walk : List ℕ) → slice_get rows i ≡ Some row → slice_get walks i ≡ Some walk → IsWalkOf g firsts peer row walk
 
--- the walks of one of some places
-abbrev pub IsExample : PlainGraph → (Place → List FirstRow) → List Place → List Row → List (List ℕ) → Type 0
-IsExample g firsts places rows walks = (place : Place) × IsIn places place × AreWalks g (firsts place) place.peer rows walks
-
--- the kind with such walks
+-- the kind with the walks of one of its places
 pub record IsShown (g : PlainGraph) (firsts : Place → List FirstRow) (bare kind : Kind) : Type 0 where
   pub words : kind.words ≡ bare.words
   pub rows : kind.rows ≡ bare.rows
   pub places : kind.places ≡ bare.places
-  pub example : IsExample g firsts bare.places bare.rows kind.walks
+  pub example : IsExample (λ place. AreWalks g (firsts place) place.peer bare.rows) bare.places kind.walks
 
 pub record AreAllShown (g : PlainGraph) (firsts : Place → List FirstRow) (bare kinds : List Kind) : Type 0 where
   pub count : length kinds ≡ length bare

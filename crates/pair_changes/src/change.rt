@@ -6,6 +6,7 @@ ghost use Rattle.pair_graph.specs.Room.{PassesRoom};
 ghost use Rattle.compare_base.specs.Cases.{pair_for};
 ghost use Rattle.pair_changes.specs.Changes.{IsPairChange};
 ghost use Rattle.pair_changes.specs.Shown.{ShowsWalks};
+ghost use Rattle.pair_changes.specs.Steps.{HasPairSteps};
 
 use crate::carriers::{carriers_alone, routers_of};
 use crate::kinds::kinds_of;
@@ -23,7 +24,7 @@ use std::alloc::Global;
 pub struct ChangedPair {
     /// What changes.
     pub change: PairChange,
-    /// How many steps the graph has, at most as many as there was room for.
+    /// How many steps the graph of the pairs of nodes has, at most as many as there was room for.
     pub used: u32,
 }
 
@@ -39,6 +40,7 @@ pub fn pair_change(
 ) -> Result<ChangedPair, PairFault>
     ensures change { (before after : PlainPolicy) (p : PlainPrefix) → pair_for before after p ≡ cases.now → ShowsWalks net.now before p old.now
         → ShowsWalks net.now after p new.now → IfOk result (λ given. IsPairChange net.now before after p given.change) }
+    ensures used { IfOk result (λ given. HasPairSteps old.now new.now given.used) }
     ensures room { IfOk result (λ given. given.used ≤ room) }
     ensures many { IsErrOf result PairFault.TooManySteps → PassesRoom old.now new.now room }
 {

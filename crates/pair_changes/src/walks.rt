@@ -1,15 +1,15 @@
 //! The walks by which kinds are shown.
-ghost use Rattle.std.specs.Prelude.{◌≡◌, ◌⊎◌, ◌<◌, IfOk, length};
-ghost use Rattle.std.specs.List.{count_by, find};
+ghost use Rattle.std.specs.Prelude.{◌≡◌, ◌<◌, IfOk, length, nat_lt, if◌then◌else◌};
+ghost use Rattle.std.specs.List.{find};
 ghost use Rattle.list_law.specs.Members.{IsIn};
-ghost use Rattle.policy_base.specs.Walks.{is_loop_free as loop_free};
 ghost use Rattle.compare_base.specs.declared.rows.Kind.{Kind as PlainKind};
 ghost use Rattle.compare_base.specs.declared.rows.Place.{Place as PlainPlace};
 ghost use Rattle.compare_base.specs.declared.rows.Row.{Row as PlainRow};
+ghost use Rattle.compare_base.specs.Same.{same_row};
 ghost use Rattle.pair_rows.specs.declared.values.FirstRow.{FirstRow as PlainFirst};
 ghost use Rattle.place_rows.specs.Rows.{rows_of};
-ghost use Rattle.pair_changes.specs.Walks.{AreAllShown, AreWalks, IsExample, IsShown, IsWalkFrom};
-ghost use Rattle.compare_base.specs.Same.{same_row};
+ghost use Rattle.pair_changes.specs.Changes.{IsExample, paths as paths_of};
+ghost use Rattle.pair_changes.specs.Walks.{AreAllShown, AreWalks, IsShown, IsWalkFrom};
 
 use compare_base::{Kind, Place, Row};
 use input_output::NoMemory;
@@ -94,7 +94,7 @@ fn walks_at(
 
 // How many walks have no loop.
 fn paths(walks: &[List<Loc>]) -> usize
-    ensures { result ≡ count_by loop_free walks.now }
+    ensures { result ≡ paths_of walks.now }
 {
     let mut count = 0;
     for walk in walks {
@@ -107,7 +107,7 @@ fn paths(walks: &[List<Loc>]) -> usize
 
 // The first walks, unless the others have more without a loop.
 fn more_paths(walks: List<List<Loc>>, others: List<List<Loc>>) -> List<List<Loc>>
-    ensures { (result ≡ walks) ⊎ (result ≡ others) }
+    ensures { result ≡ (if nat_lt (paths_of walks) (paths_of others) then others else walks) }
 {
     if paths(walks.as_slice()) < paths(others.as_slice()) {
         others
@@ -128,7 +128,7 @@ fn example(
     requires nodes { (place : PlainPlace) (x : PlainFirst) → IsIn (rows_of table.now place) x → x.node < length both.now.graph.nodes }
     requires rows { (place : PlainPlace) (row : PlainRow) → IsIn places.now place → IsIn rows.now row
         → (x : PlainFirst) × IsIn (rows_of table.now place) x × (x.row ≡ row) }
-    ensures { IfOk result (IsExample both.now.graph (rows_of table.now) places.now rows.now) }
+    ensures { IfOk result (IsExample (λ place. AreWalks both.now.graph (rows_of table.now place) place.peer rows.now) places.now) }
 {
     let mut walks = walks_at(alloc, both, table, &places[0], rows)?;
     for index in 1..places.len() {

@@ -20,11 +20,12 @@ use Rattle.pair_graph.specs.Pairs.{step_pair}
 use Rattle.pair_graph.proofs.Orders.{first_of_all}
 use Rattle.compare_base.specs.declared.rows.Place.{Place}
 use Rattle.compare_base.specs.declared.rows.Row.{Row}
+use Rattle.compare_base.specs.Order.{IsLess}
 use Rattle.compare_base.specs.Ranks.{HasRow, IsFirstWalk}
 use Rattle.pair_rows.specs.declared.values.Met.{Met}
 use Rattle.pair_rows.specs.declared.values.FirstRow.{FirstRow}
 use Rattle.pair_rows.specs.Meetings.{AreFirst, all_mets, earlier, is_at, is_row, less_rank, mets_at, node_mets, row_at, rows_alone, step_mets}
-use Rattle.pair_rows.specs.Rows.{AreCompared, AreRows, IsEarlier, IsLess, from_peer}
+use Rattle.pair_rows.specs.Rows.{AreCompared, AreRows, IsEarlier, from_peer}
 use Rattle.pair_rows.proofs.RowsMet.{along_row, met_from_row, met_of_node, met_of_step, node_met_parts, node_of, over_node, over_step, place_is, place_same, ranks_are, router_pair, row_along, row_from_met, session_pairs, step_met_parts}
 use Rattle.pair_rows.proofs.ReversedWalks.{ComesFirst, comes_first, comes_first_from}
 

@@ -1,4 +1,6 @@
 mod RowOrder
+pub mod SetItems
+pub mod EarlierRows
 pub mod NotedRows
 pub mod RowsMet
 mod ReversedWalks

@@ -11,10 +11,11 @@ use Rattle.pair_rows.specs.declared.values.Met.{Met}
 use Rattle.pair_rows.specs.declared.values.FirstRow.{FirstRow}
 use Rattle.pair_rows.specs.Meetings.{AreFirst, earlier}
 use Rattle.pair_rows.proofs.RowOrder.{earlier_apart, earlier_trans}
+use Rattle.pair_rows.proofs.SetItems.{item_set, kept, replaced, set_elsewhere, set_there}
 
 -- ---- lists
 
--- an item after one was put in, or set
+-- an item after one was put in
 data IsInserted {A : Type 0} (xs : List A) (i : ℕ) (x : A) (j : ℕ) (y : A) : Type 0 where
   before : j < i → slice_get xs j ≡ Some y → IsInserted xs i x j y
   here : j ≡ i → x ≡ y → IsInserted xs i x j y
@@ -36,32 +37,6 @@ still_in xs i x y at = elim (IsIn-append_cases (take i xs) (drop i xs) y (subst 
   | inl t ↦ IsIn-append_left (take i xs) (x ∷ drop i xs) y t
   | inr t ↦ IsIn-append_right (take i xs) (x ∷ drop i xs) y (IsIn-later x y (drop i xs) t)
 ]
-
-data IsSet {A : Type 0} (xs : List A) (k : ℕ) (x : A) (j : ℕ) (y : A) : Type 0 where
-  replaced : j ≡ k → x ≡ y → IsSet xs k x j y
-  kept : (j ≡ k → ⊥) → slice_get xs j ≡ Some y → IsSet xs k x j y
-
-item_set : {A : Type 0} (xs : List A) (k : ℕ) (x : A) (j : ℕ) (y : A) → slice_get (set xs k x) j ≡ Some y → IsSet xs k x j y
-item_set [] k x j y at = absurd cc
-item_set (z ∷ xs) zero x zero y at = replaced refl (same_Some x y at)
-item_set (z ∷ xs) zero x (suc j) y at = kept (λ e. absurd (omega (arith, e))) at
-item_set (z ∷ xs) (suc k) x zero y at = kept (λ e. absurd (omega (arith, e))) at
-item_set (z ∷ xs) (suc k) x (suc j) y at = elim (item_set xs k x j y at) [
-  | replaced same is ↦ replaced (omega (arith, same)) is
-  | kept off at' ↦ kept (λ e. off (omega (arith, e))) at'
-]
-
-set_there : {A : Type 0} (xs : List A) (k : ℕ) (x : A) → k < length xs → slice_get (set xs k x) k ≡ Some x
-set_there [] k x within = absurd (omega (arith, within))
-set_there (z ∷ xs) zero x within = refl
-set_there (z ∷ xs) (suc k) x within = set_there xs k x (omega (arith, within))
-
-set_elsewhere : {A : Type 0} (xs : List A) (k : ℕ) (x : A) (j : ℕ) (y : A) → (j ≡ k → ⊥) → slice_get xs j ≡ Some y → slice_get (set xs k x) j ≡ Some y
-set_elsewhere [] k x j y off at = absurd cc
-set_elsewhere (z ∷ xs) zero x zero y off at = absurd (off refl)
-set_elsewhere (z ∷ xs) zero x (suc j) y off at = at
-set_elsewhere (z ∷ xs) (suc k) x zero y off at = at
-set_elsewhere (z ∷ xs) (suc k) x (suc j) y off at = set_elsewhere xs k x j y (λ e. off (omega (arith, e))) at
 
 -- ---- rows
 
@@ -212,7 +187,7 @@ module _ (ms : List Met) (rows : List FirstRow) (are : AreFirst ms rows) (met : 
     there_then j y there_y = elim (cases_eq j place) [
       | inl e ↦
           let is : x ≡ y = same_Some x y (sym at ∙ ap (slice_get rows) (sym e) ∙ there_y) in
-          (lowered, (place, set_there rows place lowered (slice_get_within rows place x at)), ap (λ (z : FirstRow). z.row) is)
+          (lowered, (place, set_there rows place lowered x at), ap (λ (z : FirstRow). z.row) is)
       | inr off ↦ (y, (j, set_elsewhere rows place lowered j y off there_y), refl)
     ]
 

@@ -23,10 +23,10 @@ use Rattle.impact_law.specs.Impacts.{begin_at}
 use Rattle.compare_base.specs.declared.rows.Place.{Place}
 use Rattle.compare_base.specs.declared.rows.Row.{Row}
 use Rattle.compare_base.specs.Ranks.{HasRow, rank_for}
+use Rattle.compare_base.specs.Same.{same_place}
 use Rattle.pair_rows.specs.declared.values.Met.{Met}
 use Rattle.pair_rows.specs.Meetings.{all_mets, is_row, met_between, met_if, node_mets, row_at, step_mets}
 use Rattle.pair_rows.specs.Rows.{AreCompared}
-use Rattle.compare_base.specs.Same.{same_place}
 
 -- ---- places
 

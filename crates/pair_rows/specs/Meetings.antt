@@ -1,5 +1,5 @@
 -- Where the rows of walks are met in a graph of pairs.
-use Rattle.std.specs.Prelude.{◌≡◌, ℕ, ◌+◌, ◌<◌, ◌≤◌, Bool, true, false, ◌&&◌, ◌||◌, ◌==◌, IsTrue, is_some, nat_eq, nat_lt, List, [], ◌∷◌, ◌++◌, filter, map, slice_get, Option, Some, None, if◌then◌else◌}
+use Rattle.std.specs.Prelude.{◌≡◌, ℕ, ◌+◌, ◌<◌, ◌≤◌, Bool, true, false, ◌&&◌, ◌||◌, IsTrue, is_some, nat_eq, nat_lt, List, [], ◌∷◌, ◌++◌, filter, map, slice_get, Option, Some, None, if◌then◌else◌}
 use Rattle.std.specs.List.{flat_map}
 use Rattle.std.specs.Option.{option_and_then, option_eq}
 use Rattle.list_law.specs.Members.{IsIn}
@@ -8,9 +8,9 @@ use Rattle.graph_base.specs.Runs.{rank_at}
 use Rattle.pair_graph.specs.declared.pair.NodePair.{NodePair}
 use Rattle.compare_base.specs.declared.rows.Place.{Place}
 use Rattle.compare_base.specs.declared.rows.Row.{Row}
+use Rattle.compare_base.specs.Same.{same_place}
 use Rattle.pair_rows.specs.declared.values.Met.{Met}
 use Rattle.pair_rows.specs.declared.values.FirstRow.{FirstRow}
-use Rattle.compare_base.specs.Same.{same_place}
 
 -- ---- rows that are met
 

@@ -11,17 +11,12 @@ use Rattle.pair_graph.specs.declared.pair.NodePair.{NodePair}
 use Rattle.pair_graph.specs.Made.{IsPairGraph}
 use Rattle.compare_base.specs.declared.rows.Place.{Place}
 use Rattle.compare_base.specs.declared.rows.Row.{Row}
+use Rattle.compare_base.specs.Order.{IsLess}
 use Rattle.compare_base.specs.Ranks.{HasRow, rank_for}
 
 -- ---- rows
 
--- by rank, none last
-abbrev pub IsLess : Option ℕ → Option ℕ → Type 0
-IsLess (Some i) (Some j) = i < j
-IsLess (Some i) None = Unit {0}
-IsLess None b = ⊥
-
--- by rank in the old policy, and then in the new one
+-- by rank in the old policy, and then in the new one, none last
 abbrev pub IsEarlier : Row → Row → Type 0
 IsEarlier a b = IsLess a.old b.old ⊎ ((a.old ≡ b.old) × IsLess a.new b.new)
 

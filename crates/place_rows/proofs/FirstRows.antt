@@ -8,12 +8,12 @@ use Rattle.std.proofs.lemmas.List.Sums.{prefix_len-le-length}
 use Rattle.std.proofs.lemmas.Option.{same_Some}
 use Rattle.list_law.proofs.Positions.{position_or_len-first, position_or_len-next}
 use Rattle.compare_base.specs.declared.rows.Row.{Row}
+use Rattle.compare_base.specs.Same.{same_row}
 use Rattle.pair_rows.specs.declared.values.FirstRow.{FirstRow}
 use Rattle.pair_rows.specs.declared.values.Met.{Met}
 use Rattle.pair_rows.specs.Meetings.{AreFirst, earlier}
 use Rattle.pair_rows.proofs.NotedRows.{first_inserted, first_lowered}
 use Rattle.place_rows.proofs.Order.{later, row_is}
-use Rattle.compare_base.specs.Same.{same_row}
 
 -- ---- the first item that passes a test
 

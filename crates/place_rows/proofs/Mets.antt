@@ -13,6 +13,7 @@ use Rattle.graph_base.specs.Graphs.{PlainGraph}
 use Rattle.pair_graph.specs.declared.pair.NodePair.{NodePair}
 use Rattle.compare_base.specs.declared.rows.Place.{Place}
 use Rattle.compare_base.specs.declared.rows.Row.{Row}
+use Rattle.compare_base.specs.Same.{same_place}
 use Rattle.pair_rows.specs.declared.values.FirstRow.{FirstRow}
 use Rattle.pair_rows.specs.declared.values.Met.{Met}
 use Rattle.pair_rows.specs.Meetings.{AreFirst, is_at, is_row, met_between, met_if, mets_at, node_mets, row_at, step_mets}
@@ -20,7 +21,6 @@ use Rattle.pair_rows.proofs.RowsMet.{place_is}
 use Rattle.place_rows.specs.Noted.{AreNoted, rows_for}
 use Rattle.place_rows.proofs.Order.{same_place_comm}
 use Rattle.place_rows.proofs.Tables.{rows_read, rows_set}
-use Rattle.compare_base.specs.Same.{same_place}
 
 -- what is met at a place, after one met more
 mets_more : (mets : List Met) (met : Met) (q : Place) → mets_at (mets ++ met ∷ []) q ≡ mets_at mets q ++ (if same_place met.place q then met ∷ [] else [])

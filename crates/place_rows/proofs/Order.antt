@@ -7,9 +7,9 @@ use Rattle.list_law.proofs.Options.{is-option_eq, option_eq-is}
 use Rattle.list_law.proofs.Truth.{same_tests}
 use Rattle.compare_base.specs.declared.rows.Place.{Place}
 use Rattle.compare_base.specs.declared.rows.Row.{Row}
+use Rattle.compare_base.specs.Same.{same_place, same_row}
 use Rattle.pair_rows.specs.Meetings.{earlier, less_rank}
 use Rattle.pair_rows.proofs.RowsMet.{place_is, place_same}
-use Rattle.compare_base.specs.Same.{same_place, same_row}
 
 -- ---- rows
 

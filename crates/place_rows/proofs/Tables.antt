@@ -8,10 +8,10 @@ use Rattle.std.proofs.lemmas.Option.{cond_some, same_Some}
 use Rattle.list_law.proofs.Positions.{list_any-no_position, position_or_len-first, position_or_len-next, position_or_len-there}
 use Rattle.list_law.proofs.Truth.{either_way}
 use Rattle.compare_base.specs.declared.rows.Place.{Place}
+use Rattle.compare_base.specs.Same.{same_place}
 use Rattle.pair_rows.specs.declared.values.FirstRow.{FirstRow}
 use Rattle.pair_rows.proofs.RowsMet.{place_is, place_same}
 use Rattle.place_rows.specs.Noted.{rows_for}
-use Rattle.compare_base.specs.Same.{same_place}
 
 -- a place that is added with no rows changes no rows
 pub rows_pushed : (keys : List Place) (rows : List (Vec FirstRow Global)) (k : Place) (w : Vec FirstRow Global) (q : Place) → length keys ≡ length rows → w.items ≡ []

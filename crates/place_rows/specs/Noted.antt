@@ -1,13 +1,11 @@
 -- Rows that are noted at their places.
-use Rattle.std.specs.Prelude.{Bool, ◌&&◌, nat_eq, List, [], ◌∷◌, Vec, if◌then◌else◌}
+use Rattle.std.specs.Prelude.{List, [], ◌∷◌, Vec, if◌then◌else◌}
 use Rattle.std.specs.Global.{Global}
-use Rattle.std.specs.Option.{option_eq}
 use Rattle.compare_base.specs.declared.rows.Place.{Place}
-use Rattle.compare_base.specs.declared.rows.Row.{Row}
+use Rattle.compare_base.specs.Same.{same_place}
 use Rattle.pair_rows.specs.declared.values.FirstRow.{FirstRow}
 use Rattle.pair_rows.specs.declared.values.Met.{Met}
 use Rattle.pair_rows.specs.Meetings.{AreFirst, mets_at}
-use Rattle.compare_base.specs.Same.{same_place}
 
 -- the rows of a place, where each place has its own; a place that isn't there has none
 abbrev pub rows_for : List Place → List (Vec FirstRow Global) → Place → List FirstRow

@@ -3,11 +3,11 @@ ghost use Rattle.std.specs.Prelude.{◌≡◌, ◌<◌, ◌++◌, ◌∷◌, [],
 ghost use Rattle.std.specs.List.{position_or_len};
 ghost use Rattle.std.specs.Option.{option_map_or};
 ghost use Rattle.compare_base.specs.declared.rows.Place.{Place as PlainPlace};
+ghost use Rattle.compare_base.specs.Same.{same_place, same_row};
 ghost use Rattle.pair_rows.specs.declared.values.FirstRow.{FirstRow as PlainFirst};
 ghost use Rattle.pair_rows.specs.declared.values.Met.{Met};
 ghost use Rattle.pair_rows.specs.Meetings.{AreFirst, earlier, met_if};
 ghost use Rattle.place_rows.specs.Noted.{AreNoted, rows_for};
-ghost use Rattle.compare_base.specs.Same.{same_place, same_row};
 
 use crate::row::{is_earlier, is_row};
 use compare_base::{Place, Row};

@@ -13,11 +13,11 @@ use Rattle.net_base.specs.Prefixes.{PlainPrefix}
 use Rattle.policy_base.specs.Policies.{PlainPolicy}
 use Rattle.compare_base.specs.declared.cases.CasePair.{CasePair}
 use Rattle.compare_base.specs.Cases.{pair_for}
+use Rattle.compare_base.specs.Same.{same_cases}
+use Rattle.compare_base.proofs.SameCases.{cases_are, cases_same}
 use Rattle.policy_pairs.specs.declared.groups.Group.{Group}
 use Rattle.policy_pairs.specs.Pairs.{has_cases}
 use Rattle.policy_pairs.specs.Groups.{AreKinds, IsFirstAt, group_for}
-use Rattle.policy_pairs.proofs.SameCases.{cases_are, cases_same}
-use Rattle.compare_base.specs.Same.{same_cases}
 
 module _ (old new : PlainPolicy) where
   first_once : (ps : List PlainPrefix) (k : CasePair) (m n : ℕ) → IsFirstAt old new ps k m → IsFirstAt old new ps k n → m ≡ n

@@ -28,13 +28,13 @@ use Rattle.compare_base.specs.declared.pairs.Pair.{Pair}
 use Rattle.compare_base.specs.declared.pairs.PairPrefixes.{PairPrefixes}
 use Rattle.compare_base.specs.declared.pairs.PairPrefixes.TheVariants.{Others}
 use Rattle.compare_base.specs.Cases.{is_governed, is_originated, pair_for, says_something}
+use Rattle.compare_base.specs.Same.{same_cases}
+use Rattle.compare_base.proofs.SameCases.{cases_are, cases_same, cases_turned}
 use Rattle.policy_pairs.specs.declared.groups.Group.{Group}
 use Rattle.policy_pairs.specs.Groups.{AreGroups, AreOtherGroups, IsFirstAt, IsNoLater, group_for, originated_pair, other_pair}
 use Rattle.policy_pairs.specs.Pairs.{ArePairs, ArePrefixes, ComesBefore, IsPair, common_pattern, has_cases, originated_prefixes, prefixes_of}
 use Rattle.policy_pairs.proofs.FirstStatements.{first_pattern-find, first_statement}
-use Rattle.policy_pairs.proofs.SameCases.{cases_are, cases_same, cases_turned}
 use Rattle.policy_pairs.proofs.PairFacts.{filter_first, item_behind, first_place_some, governing_few, strictly, originated_some, originated_item, is_none_not}
-use Rattle.compare_base.specs.Same.{same_cases}
 
 module _ (net : PlainNet) (old new : PlainPolicy) (kept : IsPolicyOf net old) (kept_too : IsPolicyOf net new) where
   originated_are : (p : PlainPrefix) → IsIn (originated_prefixes old new) p → IsPrefix p × (is_originated (pair_for old new p) ≡ true)

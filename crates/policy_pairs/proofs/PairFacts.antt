@@ -14,8 +14,9 @@ use Rattle.policy_base.specs.Governing.{governing_from, originated_at, some_cont
 use Rattle.first_patterns.specs.declared.firsts.Stated.{Stated}
 use Rattle.first_patterns.specs.Firsts.{first_place}
 use Rattle.compare_base.specs.declared.cases.CasePair.{CasePair}
+use Rattle.compare_base.specs.Order.{IsLess}
 use Rattle.policy_pairs.specs.Groups.{IsNoLater, turn_of}
-use Rattle.policy_pairs.specs.Pairs.{ComesByStatement, IsLess, prefixes_of}
+use Rattle.policy_pairs.specs.Pairs.{ComesByStatement, prefixes_of}
 
 -- ---- lists and options
 

@@ -13,12 +13,12 @@ use Rattle.compare_base.specs.declared.cases.CasePair.{CasePair}
 use Rattle.compare_base.specs.declared.pairs.Pair.{Pair}
 use Rattle.compare_base.specs.declared.pairs.PairPrefixes.TheVariants.{Originated, Others}
 use Rattle.compare_base.specs.Cases.{pair_for}
+use Rattle.compare_base.specs.Same.{same_cases}
 use Rattle.policy_pairs.specs.declared.asked.Told.{Told}
 use Rattle.policy_pairs.specs.declared.asked.BothTold.{BothTold}
 use Rattle.policy_pairs.specs.declared.groups.Group.{Group}
 use Rattle.policy_pairs.specs.declared.pairs.Turn.{Turn}
 use Rattle.policy_pairs.specs.Pairs.{common_pattern, has_cases, originated_prefixes}
-use Rattle.compare_base.specs.Same.{same_cases}
 
 -- what was made ready of a policy, and of two
 pub record Tells (told : Told) (policy : PlainPolicy) : Type 0 where

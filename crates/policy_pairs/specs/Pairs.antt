@@ -1,23 +1,21 @@
 -- The pairs of cases that prefixes have in two policies, and which prefixes have each.
-use Rattle.std.specs.Prelude.{◌≡◌, ◌≢◌, ◌⊎◌, ℕ, ◌<◌, Bool, false, ◌&&◌, IsTrue, List, ◌++◌, filter, is_none, map, min, nat_eq, nat_le, slice_get, Option, Some, None, if◌then◌else◌}
-use Rattle.std.specs.Option.{option_eq}
+use Rattle.std.specs.Prelude.{◌≡◌, ◌≢◌, ◌⊎◌, ℕ, ◌<◌, Bool, false, IsTrue, List, ◌++◌, filter, is_none, map, min, nat_le, slice_get, Option, Some, None, if◌then◌else◌}
 use Rattle.list_law.specs.Members.{IsIn}
 use Rattle.net_base.specs.Network.{PlainNet}
 use Rattle.net_base.specs.Prefixes.{PlainPattern, PlainPrefix, IsPrefix, only}
-use Rattle.net_base.specs.Sets.{same_set}
 use Rattle.policy_base.specs.declared.policy.Origin.{Origin}
 use Rattle.policy_base.specs.Policies.{PlainPolicy}
 use Rattle.policy_base.specs.Governing.{originated_at}
 use Rattle.first_patterns.specs.declared.firsts.Stated.{Stated}
 use Rattle.first_patterns.specs.Firsts.{first_pattern}
 use Rattle.least_prefixes.specs.Classes.{AreLeast}
-use Rattle.compare_base.specs.declared.cases.PrefixCase.{PrefixCase}
 use Rattle.compare_base.specs.declared.cases.CasePair.{CasePair}
 use Rattle.compare_base.specs.declared.pairs.CommonPattern.{CommonPattern}
 use Rattle.compare_base.specs.declared.pairs.Pair.{Pair}
 use Rattle.compare_base.specs.declared.pairs.PairPrefixes.{PairPrefixes}
 use Rattle.compare_base.specs.declared.pairs.PairPrefixes.TheVariants.{Originated, Others}
 use Rattle.compare_base.specs.Cases.{is_originated, pair_for, says_something}
+use Rattle.compare_base.specs.Order.{IsLess}
 use Rattle.compare_base.specs.Same.{same_cases}
 
 -- ---- prefixes
@@ -66,13 +64,7 @@ pub record IsPair (net : PlainNet) (old new : PlainPolicy) (pair : Pair) : Type 
   pub said : IsTrue (says_something net pair.cases)
   pub told : ArePrefixes old new pair.cases pair.prefixes
 
--- by number, none last
-abbrev pub IsLess : Option ℕ → Option ℕ → Type 0
-IsLess (Some i) (Some j) = i < j
-IsLess (Some i) None = Unit {0}
-IsLess None b = ⊥
-
--- by statement in the old policy, and then in the new one
+-- by statement in the old policy, and then in the new one, none last
 abbrev pub ComesByStatement : CasePair → CasePair → Type 0
 ComesByStatement a b = IsLess a.old.statement b.old.statement ⊎ ((a.old.statement ≡ b.old.statement) × IsLess a.new.statement b.new.statement)
 

@@ -4,8 +4,8 @@ ghost use Rattle.std.specs.List.{list_any};
 ghost use Rattle.net_base.specs.Prefixes.{PlainPrefix};
 ghost use Rattle.policy_base.specs.Policies.{PlainPolicy};
 ghost use Rattle.compare_base.specs.Cases.{pair_for};
-ghost use Rattle.policy_pairs.specs.Groups.{AreGroups, AreKinds, TellBoth, group_for};
 ghost use Rattle.compare_base.specs.Same.{same_cases};
+ghost use Rattle.policy_pairs.specs.Groups.{AreGroups, AreKinds, TellBoth, group_for};
 
 use crate::asked::BothTold;
 use compare_base::CasePair;

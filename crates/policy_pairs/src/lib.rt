@@ -12,6 +12,8 @@
 //!
 //! A pair of others names its prefixes by patterns (`common`): what the first pattern of the old policy and that of the new one both contain.
 //!
+//! The cases, the prefixes and the order leave no choice: two policies have one list of pairs (`laws`).
+//!
 //! Compiling doesn't need it.
 //!
 //! It knows nothing of walks or graphs.
@@ -20,6 +22,8 @@
 mod asked;
 mod common;
 mod groups;
+mod laws;
 mod pairs;
 
+pub use laws::pairs_are_one;
 pub use pairs::policy_pairs;

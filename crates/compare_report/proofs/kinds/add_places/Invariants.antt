@@ -3,8 +3,8 @@ use Rattle.std.specs.Prelude.{◌||◌}
 use Rattle.std.specs.List.{list_any}
 use Rattle.indexmap.specs.IndexSet.{contains}
 use Rattle.compare_base.specs.declared.rows.Place.{Place}
-use Rattle.compare_report.proofs.kinds.add_places.Given as goal
 use Rattle.compare_base.specs.Same.{same_place}
+use Rattle.compare_report.proofs.kinds.add_places.Given as goal
 
 abbrev pub invariant-loop-place : goal.invariant-loop-place
 invariant-loop-place l =

@@ -2,10 +2,10 @@ use Rattle.std.proofs.Common.{◌≡◌, drop}
 use Rattle.std.specs.Prelude.{◌||◌}
 use Rattle.indexmap.specs.IndexSet.{contains}
 use Rattle.compare_base.specs.declared.rows.Place.{Place}
+use Rattle.compare_base.specs.Same.{same_place}
 use Rattle.compare_report.specs.Groups.{seen}
 use Rattle.compare_report.specs.Kinds.{is_one}
 use Rattle.compare_report.proofs.kinds.place_set.Given as goal
-use Rattle.compare_base.specs.Same.{same_place}
 
 abbrev pub invariant-loop-pair : goal.invariant-loop-pair
 invariant-loop-pair l =

@@ -41,3 +41,6 @@ overflow_cast-used c = omega (arith, ap length c.steps.ensures.steps, c.in_ok-bo
 
 pub returns-clause-room : goal.returns-clause-room
 returns-clause-room c = omega (arith, ap length c.steps.ensures.steps, c.in_ok-both.ensures.room)
+
+pub returns-clause-used : goal.returns-clause-used
+returns-clause-used c = record { pairs = c.in_ok-both.both.pairs; both = c.in_ok-both.both.graph; is = c.in_ok-both.ensures.graph; steps = omega (arith, ap length c.steps.ensures.steps) }

@@ -1,6 +1,10 @@
+use Rattle.std.proofs.Common.{List, arith, subst, take_all}
+use Rattle.compare_base.specs.declared.rows.Place.{Place}
 use Rattle.pair_changes.proofs.OneMore.{item_read}
 use Rattle.place_rows.specs.Rows.{rows_of}
-use Rattle.pair_changes.proofs.WalkLists.{example_more}
+use Rattle.pair_changes.specs.Changes.{IsExample}
+use Rattle.pair_changes.specs.Walks.{AreWalks}
+use Rattle.pair_changes.proofs.Examples.{example_first, example_next}
 use Rattle.pair_changes.proofs.walks.example.Goals as goal
 
 pub walks_at-requires-clause-nodes : goal.walks_at-requires-clause-nodes
@@ -15,6 +19,15 @@ walks_at-requires-in-loop-index-clause-rows c = λ row.
 
 pub loop-index-preserved : goal.loop-index-preserved
 loop-index-preserved c =
-    let place = c.index-places-index.result in
-    example_more c.args.both.now.graph (rows_of c.args.table.now) c.args.places.now c.args.rows.now c.loop-index.walks c.in_ok-others.others c.more_paths-walks.result place
-    c.loop-index.invariant (item_read c.args.places.now c.loop-index.index place c.loop-index-test.true c.index-places-index.is) c.in_ok-others.ensures c.more_paths-walks.ensures
+    example_next (λ place. AreWalks c.args.both.now.graph (rows_of c.args.table.now place) place.peer c.args.rows.now) c.args.places.now c.loop-index.index c.index-places-index.result
+    c.loop-index.walks c.in_ok-others.others c.more_paths-walks.result c.loop-index-test.true c.index-places-index.is c.loop-index.invariant c.in_ok-others.ensures c.more_paths-walks.ensures
+
+pub loop-index-init : goal.loop-index-init
+loop-index-init c =
+    example_first (λ place. AreWalks c.args.both.now.graph (rows_of c.args.table.now place) place.peer c.args.rows.now) c.args.places.now c.index-places-0.result c.in_ok-walks.walks
+    c.requires.some c.index-places-0.is c.in_ok-walks.ensures
+
+pub returns : goal.returns
+returns c =
+    subst (λ (ps : List Place). IsExample (λ place. AreWalks c.args.both.now.graph (rows_of c.args.table.now place) place.peer c.args.rows.now) ps c.loop-index.walks)
+    (take_all c.loop-index.index c.args.places.now (omega (arith, c.loop-index-test.false))) c.loop-index.invariant

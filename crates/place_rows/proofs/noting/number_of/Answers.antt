@@ -2,11 +2,11 @@ use Rattle.std.proofs.Common.{◌≡◌, ◌++◌, ◌∷◌, [], ◌∙◌, Lis
 use Rattle.std.specs.Global.{Global}
 use Rattle.std.specs.List.{position}
 use Rattle.compare_base.specs.declared.rows.Place.{Place}
+use Rattle.compare_base.specs.Same.{same_place}
 use Rattle.pair_rows.specs.declared.values.FirstRow.{FirstRow}
 use Rattle.place_rows.specs.Noted.{rows_for}
 use Rattle.place_rows.proofs.Tables.{keys_grown, number_grown, rows_pushed}
 use Rattle.place_rows.proofs.noting.number_of.Goals as goal
-use Rattle.compare_base.specs.Same.{same_place}
 
 pub returns-clause-number : goal.returns-clause-number
 returns-clause-number c =

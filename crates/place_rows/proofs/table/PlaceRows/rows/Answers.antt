@@ -2,9 +2,9 @@ use Rattle.std.proofs.Common.{◌≡◌, ◌∙◌, ◌<◌, Some, ap, arith, le
 use Rattle.std.specs.Prelude.{slice_get}
 use Rattle.std.proofs.lemmas.Option.{slice_get-get_or}
 use Rattle.list_law.proofs.Positions.{list_any-no_position}
+use Rattle.compare_base.specs.Same.{same_place}
 use Rattle.place_rows.proofs.Tables.{number_found, rows_absent, rows_read}
 use Rattle.place_rows.proofs.table.PlaceRows.rows.Goals as goal
-use Rattle.compare_base.specs.Same.{same_place}
 
 pub returns-in-Some : goal.returns-in-Some
 returns-in-Some c =

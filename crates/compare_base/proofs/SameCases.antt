@@ -7,9 +7,9 @@ use Rattle.list_law.proofs.Options.{option_eq-is, is-option_eq}
 use Rattle.list_law.proofs.Truth.{same_tests}
 use Rattle.net_base.specs.declared.loc.LocSet.{LocSet}
 use Rattle.net_base.specs.Sets.{same_set}
+use Rattle.evidence_law.proofs.CaseLists.{set_is}
 use Rattle.compare_base.specs.declared.cases.PrefixCase.{PrefixCase}
 use Rattle.compare_base.specs.declared.cases.CasePair.{CasePair}
-use Rattle.evidence_law.proofs.CaseLists.{set_is}
 use Rattle.compare_base.specs.Same.{same_case, same_cases}
 
 sets_are : (a b : Option LocSet) → option_eq same_set a b ≡ true → a ≡ b
@@ -25,14 +25,14 @@ sets_same a b is = ap (λ o. option_eq same_set a o) (sym is) ∙ itself a
     itself None = refl
     itself (Some s) = (bytes_eq-Decides s.words s.words).1 refl
 
-case_is : (a b : PrefixCase) → same_case a b ≡ true → a ≡ b
+pub case_is : (a b : PrefixCase) → same_case a b ≡ true → a ≡ b
 case_is a b same =
     let parts = and_parts _ _ same in
     let statement = option_eq-is a.statement b.statement parts.0 in
     let origins = sets_are a.origins b.origins parts.1 in
     λ i. record { statement = statement i; origins = origins i }
 
-case_same : (a b : PrefixCase) → a ≡ b → same_case a b ≡ true
+pub case_same : (a b : PrefixCase) → a ≡ b → same_case a b ≡ true
 case_same a b is = and_from _ _ (is-option_eq a.statement b.statement (ap (λ (c : PrefixCase). c.statement) is)) (sets_same a.origins b.origins (ap (λ (c : PrefixCase). c.origins) is))
 
 pub cases_are : (a b : CasePair) → same_cases a b ≡ true → a ≡ b
