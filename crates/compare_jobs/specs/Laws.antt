@@ -2,13 +2,19 @@
 use Rattle.std.specs.Prelude.{◌≡◌, ◌↔◌, ℕ, ◌<◌, ◌^◌, List}
 use Rattle.net_base.specs.Network.{PlainNet, IsNet}
 use Rattle.net_base.specs.Prefixes.{PlainPrefix, IsPrefix}
-use Rattle.policy_base.specs.Policies.{PlainPolicy}
+use Rattle.policy_base.specs.Policies.{IsPolicyOf, PlainPolicy}
 use Rattle.config_base.specs.Configs.{PlainConfig}
 use Rattle.outcome_base.specs.Right.{IsRight}
 use Rattle.compare_base.specs.Ranks.{IsAlike, IsSame}
 use Rattle.comparison_law.specs.Laws.{IsUntold}
 use Rattle.compare_report.specs.Changes.{last_line}
 use Rattle.compare_jobs.specs.Compared.{IsCompared}
+
+-- Two policies have one text.
+abbrev pub ComparedTextsAreOne : Type 0
+ComparedTextsAreOne =
+    (net : PlainNet) (old new : PlainPolicy) (one other : List ℕ) → IsPolicyOf net old → IsPolicyOf net new → IsCompared net old new one → IsCompared net old new other
+    → one ≡ other
 
 -- one configuration serves both policies or neither
 abbrev pub AreServedAlike : PlainNet → PlainPolicy → PlainPolicy → Type 0

@@ -19,13 +19,18 @@
 //! It knows nothing of words, names or sinks.
 #![tactic(auto)]
 
-ghost use Rattle.compare_jobs.specs.Laws.{UnchangedTextsTellSamePolicies, UntoldPrefixesAreAlike};
+ghost use Rattle.compare_jobs.specs.Laws.{ComparedTextsAreOne, UnchangedTextsTellSamePolicies, UntoldPrefixesAreAlike};
 
 mod compare;
 mod lines;
 
 pub use compare::compare_texts;
 pub use lines::refusal_line;
+
+/// Two policies have one text of their comparison.
+pub fn texts_of_comparisons_are_one()
+    ensures { ComparedTextsAreOne }
+{}
 
 /// Where the text of a comparison is `cases N changed 0` the policies say the same of every prefix, and one configuration serves both or
 /// neither. Of a prefix whose pair isn't told they say the same, too.

@@ -2,4 +2,4 @@ mod Listed
 mod Places
 mod Agreeing
 pub mod Told
-mod One
+pub mod One

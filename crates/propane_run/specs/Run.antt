@@ -55,7 +55,8 @@ Job Compare = comparisons.SaysOfTexts
 Job (Under outlook) = SaysOfThree scenario_line scenario_spelled (WritesUnder outlook)
 Job (After course) = SaysOfThree events_line events_spelled (WritesAfter course)
 
--- This says one thing of the same bytes. Of a comparison it isn't said which of the places that differ alike has its walks shown.
+-- This says one thing of the same bytes. `compare` writes one text, but of which pair it is told that the limit on pairs is passed isn't proved
+-- to be one thing.
 abbrev pub SaysOneThing : Command → Type 0
 SaysOneThing Compare = ⊥
 SaysOneThing _ = Unit {0}

@@ -7,7 +7,7 @@ ghost use Rattle.run_base.specs.Said.{Said, text};
 ghost use Rattle.propane_run.specs.Words.{names_read};
 ghost use Rattle.propane_run.specs.declared.command.Command.{Command};
 
-/// A command says one thing of the same bytes, but for `compare`.
+/// A command says one thing of the same bytes. Of `compare` that is a law on its text (`compare_jobs`).
 pub fn commands_say_one_thing()
     ensures { (c : Command) (bs : List (List ℕ)) (one other : Said) → SaysOneThing c → Job c bs one → Job c bs other → one ≡ other }
 {}
