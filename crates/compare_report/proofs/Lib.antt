@@ -1,3 +1,3 @@
 pub mod Borrowed
 pub mod Telling
-mod Unchanged
+pub mod Unchanged

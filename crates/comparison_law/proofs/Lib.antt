@@ -1,5 +1,5 @@
 mod Listed
 mod Places
 mod Agreeing
-mod Told
-mod One
+pub mod Told
+pub mod One

@@ -1,1 +1,3 @@
 pub mod CaseWalks
+mod Cases
+mod Comparing

@@ -5,10 +5,10 @@ use Rattle.std.specs.Str.{bytes_eq}
 use Rattle.help_texts.specs.declared.pages.compiling.TheConstants.{BETWEEN, COMPILE, EVIDENCE, MAPS, MIGRATE, RENEW, RENEWAL, ROUTEMAP, SAMPLE}
 use Rattle.help_texts.specs.declared.pages.judging.TheConstants.{AUDIT, CHECK, CHECKMAP, EXPLAIN, LINT}
 use Rattle.help_texts.specs.declared.pages.program.TheConstants.{COMMANDS, HELP, USAGE, VERSION, VERSION_PAGE}
-use Rattle.help_texts.specs.declared.pages.telling.TheConstants.{DRAIN, IMPACT, MULTIPATH, PROMISES, REPLAY, SETTLE, TRACE, WAITING, WHATIF}
+use Rattle.help_texts.specs.declared.pages.telling.TheConstants.{COMPARE, DRAIN, IMPACT, MULTIPATH, PROMISES, REPLAY, SETTLE, TRACE, WAITING, WHATIF}
 use Rattle.help_texts.specs.declared.topic.Topic.{Topic}
 use Rattle.help_texts.specs.declared.topic.Topic.TheVariants.{Compile, Evidence, Check, Explain, Replay, Trace, Sample, Migrate, Impact, RouteMap, CheckMap, Lint, Audit}
-use Rattle.help_texts.specs.declared.topic.Topic.TheVariants.{Help, Version, Drain, Settle, Promises, WhatIf, Multipath, Maps, Between, Renew, Renewal, Waiting}
+use Rattle.help_texts.specs.declared.topic.Topic.TheVariants.{Help, Version, Drain, Settle, Promises, WhatIf, Multipath, Maps, Between, Renew, Renewal, Waiting, Compare}
 
 -- the word of a command
 abbrev pub word_of : Topic → List ℕ
@@ -37,12 +37,13 @@ word_of Between = codes "between"
 word_of Renew = codes "renew"
 word_of Renewal = codes "renewal"
 word_of Waiting = codes "waiting"
+word_of Compare = codes "compare"
 
 -- all commands
 abbrev pub topics : List Topic
 topics =
     Compile ∷ Evidence ∷ Check ∷ Explain ∷ Replay ∷ Trace ∷ Sample ∷ Migrate ∷ Impact ∷ RouteMap ∷ CheckMap ∷ Lint ∷ Audit
-    ∷ Help ∷ Version ∷ Drain ∷ Settle ∷ Promises ∷ WhatIf ∷ Multipath ∷ Maps ∷ Between ∷ Renew ∷ Renewal ∷ Waiting ∷ []
+    ∷ Help ∷ Version ∷ Drain ∷ Settle ∷ Promises ∷ WhatIf ∷ Multipath ∷ Maps ∷ Between ∷ Renew ∷ Renewal ∷ Waiting ∷ Compare ∷ []
 
 -- the command of this word
 abbrev pub topic_named : List ℕ → Option Topic
@@ -75,6 +76,7 @@ page_of Between = BETWEEN.now
 page_of Renew = RENEW.now
 page_of Renewal = RENEWAL.now
 page_of Waiting = WAITING.now
+page_of Compare = COMPARE.now
 
 -- what is said of one command, or of all
 abbrev pub help_text : Option Topic → List ℕ

@@ -57,6 +57,8 @@ pub enum Topic {
     Renewal,
     /// `waiting`.
     Waiting,
+    /// `compare`.
+    Compare,
 }
 
 impl Topic {
@@ -90,6 +92,7 @@ impl Topic {
             "renew" => Some(Topic::Renew),
             "renewal" => Some(Topic::Renewal),
             "waiting" => Some(Topic::Waiting),
+            "compare" => Some(Topic::Compare),
             _ => None,
         }
     }
@@ -124,6 +127,7 @@ impl Topic {
             Topic::Renew => pages::RENEW,
             Topic::Renewal => pages::RENEWAL,
             Topic::Waiting => pages::WAITING,
+            Topic::Compare => pages::COMPARE,
         }
     }
 }

@@ -26,8 +26,12 @@ fault_line told text f = codes "propane: " ++ text ++ codes " " ++ decimal (told
 abbrev pub topology_line : TopoFault → List ℕ
 topology_line = fault_line topology.told (codes "topology")
 
+-- of one of several policies, by what it is called
+abbrev pub named_policy_line : List ℕ → PolicyFault → List ℕ
+named_policy_line words = fault_line policy.told words
+
 abbrev pub policy_line : PolicyFault → List ℕ
-policy_line = fault_line policy.told (codes "policy")
+policy_line = named_policy_line (codes "policy")
 
 abbrev pub config_line : ConfigFault → List ℕ
 config_line = fault_line config.told (codes "config")

@@ -27,7 +27,7 @@ use Rattle.text_parts.specs.Telling.{Telling}
 use Rattle.run_base.specs.declared.outcome.Stop.{Stop}
 use Rattle.run_base.specs.declared.outcome.Status.TheVariants.{BadInput}
 use Rattle.run_base.specs.Said.{Said, stop_said, no_memory, line}
-use Rattle.input_texts.specs.FaultLines.{fault_line, topology_line, policy_line, config_line, evidence_line, scenario_line, events_line, tables_line, maps_line}
+use Rattle.input_texts.specs.FaultLines.{fault_line, topology_line, named_policy_line, policy_line, config_line, evidence_line, scenario_line, events_line, tables_line, maps_line}
 
 -- ---- one text
 
@@ -44,6 +44,9 @@ IsReadOr {X} {Y} {F} view line_of read (Err s) = (stop_said s ≡ no_memory) ⊎
 
 abbrev pub IsNetOr : Result PlainNet TopoFault → Result PlainNet Stop → Type 0
 IsNetOr = IsReadOr (λ net. net) topology_line
+
+abbrev pub IsNamedPolicyOr : List ℕ → Result PlainPolicy PolicyFault → Result PolicyLists Stop → Type 0
+IsNamedPolicyOr words = IsReadOr policy_of (named_policy_line words)
 
 abbrev pub IsPolicyOr : Result PlainPolicy PolicyFault → Result PolicyLists Stop → Type 0
 IsPolicyOr = IsReadOr policy_of policy_line

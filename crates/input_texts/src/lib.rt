@@ -7,7 +7,8 @@
 //! which one is want of memory.
 //!
 //! The kind of text is no part of the fault: it is the word that stands in front of it (`policy 4 syntax at 1:1`). A text of
-//! maps has the faults of a configuration, and which of two texts of one kind is meant is known only here. What a text
+//! maps has the faults of a configuration, and which of two texts of one kind is meant is known only here or by the caller
+//! (`policy_named`). What a text
 //! spells, or its fault, is said once for all kinds, too (`IsReadOr`, `OfRead` of `specs/Texts`). What the inputs of a
 //! command come to together stands in `specs/Asked` (`SpellFor`, `SpellAlso`).
 //!
@@ -21,6 +22,6 @@ mod texts;
 
 pub use fault_lines::or_told;
 pub use texts::{
-    config_1_for, config_for, events_for, evidence_for, maps_for, net_of, policy_for, scenario_for,
-    tables_for,
+    config_1_for, config_for, events_for, evidence_for, maps_for, net_of, policy_for, policy_named,
+    scenario_for, tables_for,
 };

@@ -11,7 +11,7 @@ ghost use Rattle.scenario_reader.specs.Spelled.{spelled as scenario_spelled};
 ghost use Rattle.event_reader.specs.Spelled.{spelled as events_spelled};
 ghost use Rattle.table_reader.specs.Spelled.{spelled as tables_spelled};
 ghost use Rattle.map_reader.specs.MapsRead.{spelled as maps_spelled};
-ghost use Rattle.input_texts.specs.Texts.{IsNetOr, IsPolicyOr, IsConfigOr, IsEvidenceOr, IsScenarioOr, IsEventsOr, IsTablesOr, IsMapsOr};
+ghost use Rattle.input_texts.specs.Texts.{IsNetOr, IsNamedPolicyOr, IsPolicyOr, IsConfigOr, IsEvidenceOr, IsScenarioOr, IsEventsOr, IsTablesOr, IsMapsOr};
 ghost use Rattle.topology.specs.Topology.{spelled};
 
 use crate::fault_lines::or_told;
@@ -39,6 +39,16 @@ pub fn net_of(alloc: Global, topology: &[u8]) -> Result<Net, Stop>
     or_told(alloc, b"topology", read_topology(alloc, topology))
 }
 
+/// The policy that the bytes spell for the net, or why the run stops. A fault is told of a text by these words, as `old policy`.
+pub fn policy_named(alloc: Global, words: &[u8], net: &Net, policy: &[u8]) -> Result<Policy, Stop>
+    requires { length policy.now < 4294967295 }
+    ensures spells { IsNamedPolicyOr words.now (policy_spelled net.now policy.now) result }
+    ensures routers { IfOk result (λ policy. OriginsAreRouters net.now policy.origins) }
+    ensures fits { IfOk result (λ policy. IsPolicyOf net.now (policy_of policy)) }
+{
+    or_told(alloc, words, read_policy(alloc, policy, net))
+}
+
 /// The policy that the bytes spell for the net, or why the run stops.
 pub fn policy_for(alloc: Global, net: &Net, policy: &[u8]) -> Result<Policy, Stop>
     requires { length policy.now < 4294967295 }
@@ -46,7 +56,7 @@ pub fn policy_for(alloc: Global, net: &Net, policy: &[u8]) -> Result<Policy, Sto
     ensures routers { IfOk result (λ policy. OriginsAreRouters net.now policy.origins) }
     ensures fits { IfOk result (λ policy. IsPolicyOf net.now (policy_of policy)) }
 {
-    or_told(alloc, b"policy", read_policy(alloc, policy, net))
+    policy_named(alloc, b"policy", net, policy)
 }
 
 /// The configuration that the bytes spell, or why the run stops.

@@ -18,7 +18,7 @@ use Rattle.judging_jobs.specs.Asked.{Audited, SpellAudit}
 use Rattle.renewal_jobs.proofs.ReuseLaws.{SpellPair}
 use Rattle.propane_run.specs.declared.command.Command.{Command}
 use Rattle.propane_run.specs.declared.command.Command.TheVariants.{Compile, Evidence, Check, Explain, Impact, RouteMap, CheckMap, Lint, Audit, Migrate}
-use Rattle.propane_run.specs.declared.command.Command.TheVariants.{Sample, Help, Version, Promises, Maps, Between, Renew, Reuse, Under, After}
+use Rattle.propane_run.specs.declared.command.Command.TheVariants.{Sample, Help, Version, Promises, Maps, Between, Renew, Reuse, Compare, Under, After}
 use Rattle.propane_run.specs.Asked.{AsksAlso, AsksFor, AsksOfReuse, IsFor}
 use Rattle.propane_run.specs.Auditing.{AsksAudit}
 use Rattle.propane_run.specs.Headline.{NamesTexts}
@@ -62,6 +62,7 @@ module _ (holds : Holds) (words : List (List ℕ)) where
   asked_by (Between stage) net policy is = absurd is
   asked_by (Renew part) net policy is = is.1.asked.asked
   asked_by (Reuse part) net policy is = is.2.asked.asked
+  asked_by Compare net policy is = is.1.asked.asked
   asked_by (Under outlook) net policy is = is.1.asked.asked
   asked_by (After course) net policy is = is.1.asked.asked
 

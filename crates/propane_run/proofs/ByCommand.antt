@@ -4,6 +4,7 @@ pub mod Audit
 pub mod Between
 pub mod Check
 pub mod CheckMap
+pub mod Compare
 pub mod Explain
 pub mod Impact
 pub mod Lint

@@ -9,7 +9,7 @@ use Rattle.run_base.specs.Said.{text, Whole}
 use Rattle.run_base.proofs.Sent.{Gives, text_sent}
 use Rattle.propane_run.specs.declared.command.Command.{Command}
 use Rattle.propane_run.specs.declared.command.Command.TheVariants.{Compile, Evidence, Check, Explain, Impact, RouteMap, CheckMap, Lint, Audit, Migrate}
-use Rattle.propane_run.specs.declared.command.Command.TheVariants.{Sample, Help, Version, Promises, Maps, Between, Renew, Reuse, Under, After}
+use Rattle.propane_run.specs.declared.command.Command.TheVariants.{Sample, Help, Version, Promises, Maps, Between, Renew, Reuse, Compare, Under, After}
 use Rattle.propane_run.specs.Ends.{EndsRight, Compiles as EndsCompiling}
 use Rattle.propane_run.specs.Run.{Job}
 use Rattle.propane_run.specs.Words.{names_read}
@@ -17,6 +17,7 @@ use Rattle.propane_run.proofs.ByCommand.Audit as audit
 use Rattle.propane_run.proofs.ByCommand.Between as between
 use Rattle.propane_run.proofs.ByCommand.Check as check
 use Rattle.propane_run.proofs.ByCommand.CheckMap as check_map
+use Rattle.propane_run.proofs.ByCommand.Compare as compare
 use Rattle.propane_run.proofs.ByCommand.Explain as explain
 use Rattle.propane_run.proofs.ByCommand.Lint as lint
 use Rattle.propane_run.proofs.ByCommand.Maps as maps
@@ -105,6 +106,10 @@ module _ {O E : Type 0} (ot : O → Option (List ℕ)) (of : O → ℕ) (et : E 
       λ e applies calm. reuse.refused_where holds words part net policy old olds asks ot of et ef out out' err err' ended e calm applies gives,
       λ past calm. reuse.past_where holds words part net policy old olds asks ot of et ef out out' err err' ended past calm gives,
       λ other calm. reuse.other_where holds words part net policy old olds asks ot of et ef out out' err err' ended other calm gives,
+    )
+    ends Compare gives = λ net old new asks. (
+      λ none calm. compare.compared_where holds words net old new asks ot of et ef out out' err err' ended none calm gives,
+      λ e of_case past calm. compare.limited_where holds words net old new asks ot of et ef out out' err err' ended e of_case past calm gives,
     )
     ends (Under outlook) gives = compiling (Under outlook) tt gives
     ends (After course) gives = compiling (After course) tt gives

@@ -13,7 +13,7 @@ use Rattle.list_law.proofs.Options.{option_and_then_parts, option_map_parts}
 use Rattle.list_law.proofs.Tests.{find_parts}
 use Rattle.propane_run.specs.declared.command.Command.{Command}
 use Rattle.propane_run.specs.declared.command.Command.TheVariants.{Compile, Evidence, Check, Explain, Impact, RouteMap, CheckMap, Lint, Audit, Migrate}
-use Rattle.propane_run.specs.declared.command.Command.TheVariants.{Sample, Help, Version, Promises, Maps, Between, Renew, Reuse, Under, After}
+use Rattle.propane_run.specs.declared.command.Command.TheVariants.{Sample, Help, Version, Promises, Maps, Between, Renew, Reuse, Compare, Under, After}
 use Rattle.propane_run.specs.declared.command.Course.TheVariants.{Trace, Settle, Waiting}
 use Rattle.propane_run.specs.declared.command.Outlook.TheVariants.{Replay, Drain, WhatIf, Multipath}
 use Rattle.propane_run.specs.Words.{command_of, help_of, name_count, names_read, other_words, prefix_word, renewing, sample_number, stage_word, topic_asked, words_are}
@@ -40,6 +40,7 @@ topic_of (Renew part.Config) = topic.Renew
 topic_of (Renew part.Evidence) = topic.Renewal
 topic_of (Reuse part.Config) = topic.Renew
 topic_of (Reuse part.Evidence) = topic.Renewal
+topic_of Compare = topic.Compare
 topic_of (Under Replay) = topic.Replay
 topic_of (Under Drain) = topic.Drain
 topic_of (Under WhatIf) = topic.WhatIf
@@ -94,6 +95,7 @@ named topic.Between rest c h =
 named topic.Renew rest c h = is_of (renewing part.Config rest) c topic.Renew (renews part.Config (nat_eq (length rest) 4)) h
 named topic.Renewal rest c h = is_of (renewing part.Evidence rest) c topic.Renewal (renews part.Evidence (nat_eq (length rest) 4)) h
 named topic.Waiting rest c h = is_of (After Waiting) c topic.Waiting refl h
+named topic.Compare rest c h = is_of Compare c topic.Compare refl h
 
 -- a word by which every program is asked names help or the version alone
 own_word : (help version : Bool) (word : List ℕ) (t : Topic) → t ≢ topic.Help → t ≢ topic.Version

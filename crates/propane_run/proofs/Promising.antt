@@ -13,7 +13,7 @@ use Rattle.report_jobs.specs.WhatIfs.{WritesWhatIf}
 use Rattle.report_jobs.specs.Spread.{WritesMultipath}
 use Rattle.propane_run.specs.declared.command.Command.{Command}
 use Rattle.propane_run.specs.declared.command.Command.TheVariants.{Compile, Evidence, Check, Explain, Impact, RouteMap, CheckMap, Lint, Audit, Migrate}
-use Rattle.propane_run.specs.declared.command.Command.TheVariants.{Sample, Help, Version, Promises, Maps, Between, Renew, Reuse, Under, After}
+use Rattle.propane_run.specs.declared.command.Command.TheVariants.{Sample, Help, Version, Promises, Maps, Between, Renew, Reuse, Compare, Under, After}
 use Rattle.propane_run.specs.declared.command.Course.{Course}
 use Rattle.propane_run.specs.declared.command.Course.TheVariants.{Trace, Settle, Waiting}
 use Rattle.propane_run.specs.declared.command.Outlook.{Outlook}
@@ -25,6 +25,7 @@ use Rattle.propane_run.proofs.ByCommand.Audit as audit
 use Rattle.propane_run.proofs.ByCommand.Between as between
 use Rattle.propane_run.proofs.ByCommand.Check as check
 use Rattle.propane_run.proofs.ByCommand.CheckMap as check_map
+use Rattle.propane_run.proofs.ByCommand.Compare as compare
 use Rattle.propane_run.proofs.ByCommand.Explain as explain
 use Rattle.propane_run.proofs.ByCommand.Impact as impact
 use Rattle.propane_run.proofs.ByCommand.Lint as lint
@@ -74,6 +75,7 @@ module _ {S : Type 0} (holds : Holds) (words : List (List ℕ)) (taken : S → O
   done (Between stage) comes = between.right holds words stage taken before now b written comes
   done (Renew part) comes = renew.right holds words part taken before now b written comes
   done (Reuse part) comes = reuse.right holds words part taken before now b written comes
+  done Compare comes = compare.right holds words taken before now b written comes
   done (Under outlook) comes = under outlook comes
   done (After course) comes = after course comes
 
@@ -85,6 +87,7 @@ module _ {S : Type 0} (holds : Holds) (words : List (List ℕ)) (taken : S → O
   refused (Between stage) refuses comes = between.refused holds words stage taken before now b written comes
   refused (Renew part) refuses comes = renew.refused holds words part taken before now b written comes
   refused (Reuse part) refuses comes = reuse.refused holds words part taken before now b written comes
+  refused Compare refuses comes = compare.refused holds words taken before now b written comes
   refused Compile refuses comes = compilers.refused holds words taken before now b written Compile refuses comes
   refused Evidence refuses comes = compilers.refused holds words taken before now b written Evidence refuses comes
   refused (Impact x) refuses comes = compilers.refused holds words taken before now b written (Impact x) refuses comes

@@ -1,6 +1,6 @@
 -- Which commands compile, which may refuse, and which judge what they are given.
 use Rattle.propane_run.specs.declared.command.Command.{Command}
-use Rattle.propane_run.specs.declared.command.Command.TheVariants.{Compile, Evidence, Check, Impact, RouteMap, CheckMap, Lint, Audit, Sample, Promises, Maps, Between, Renew, Reuse, Under, After}
+use Rattle.propane_run.specs.declared.command.Command.TheVariants.{Compile, Evidence, Check, Impact, RouteMap, CheckMap, Lint, Audit, Sample, Promises, Maps, Between, Renew, Reuse, Compare, Under, After}
 
 -- it writes a part of what is compiled from a policy, or what comes of it
 abbrev pub Compiles : Command → Type 0
@@ -22,6 +22,7 @@ Refuses Maps = Unit {0}
 Refuses (Between _) = Unit {0}
 Refuses (Renew _) = Unit {0}
 Refuses (Reuse _) = Unit {0}
+Refuses Compare = Unit {0}
 Refuses c = Compiles c
 
 -- it judges what it is given

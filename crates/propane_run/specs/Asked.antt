@@ -17,7 +17,7 @@ use Rattle.sample_network.specs.Network.{sample_net}
 use Rattle.sample_network.specs.SamplePolicy.{sample_policy}
 use Rattle.propane_run.specs.declared.command.Command.{Command}
 use Rattle.propane_run.specs.declared.command.Command.TheVariants.{Compile, Evidence, Check, Explain, Impact, RouteMap, CheckMap, Lint, Audit, Migrate}
-use Rattle.propane_run.specs.declared.command.Command.TheVariants.{Sample, Help, Version, Promises, Maps, Between, Renew, Reuse, Under, After}
+use Rattle.propane_run.specs.declared.command.Command.TheVariants.{Sample, Help, Version, Promises, Maps, Between, Renew, Reuse, Compare, Under, After}
 use Rattle.propane_run.specs.Words.{words_are, names_read}
 use Rattle.run_base.specs.Reading.{Holds, AllHeld}
 
@@ -61,6 +61,13 @@ pub record AsksOfReuse (holds : Holds) (words : List (List ℕ)) (part : Part) (
   pub config_spelled : config_spelled config_text ≡ Ok old
   pub evidence_spelled : evidence_spelled evidence_text ≡ Ok evidence
 
+-- The words are `compare`, and the bytes of the three names that it reads mean this network, an old policy for it and a new one.
+pub record AsksCompare (holds : Holds) (words : List (List ℕ)) (net : PlainNet) (old new : PlainPolicy) : Type 0 where
+  pub asked : AsksFor holds words Compare net old
+  pub new_text : List ℕ
+  pub more : asked.more ≡ new_text ∷ []
+  pub new_meant : IsPolicyTextOf net new_text new
+
 -- The words are `sample` with this number, and these are its network and its policy.
 pub record IsSampled (words : List (List ℕ)) (n : ℕ) (net : PlainNet) (policy : PlainPolicy) : Type 0 where
   pub asked : words_are words ≡ Some (Sample n)
@@ -88,5 +95,6 @@ IsFor holds words Maps net policy = ⊥
 IsFor holds words (Between stage) net policy = ⊥
 IsFor holds words (Renew part) net policy = (old : PlainConfig) × AsksOfRenewal holds words part net policy old
 IsFor holds words (Reuse part) net policy = (old : PlainConfig) × (evidence : List PlainCaseEvidence) × AsksOfReuse holds words part net policy old evidence
+IsFor holds words Compare net policy = (new : PlainPolicy) × AsksCompare holds words net policy new
 IsFor holds words (Under outlook) net policy = (scenario : Scenario) × AsksUnder holds words (Under outlook) net policy scenario
 IsFor holds words (After course) net policy = (events : Events) × AsksOfEvents holds words (After course) net policy events

@@ -7,6 +7,9 @@ use Rattle.case_core.specs.declared.refusal.CompileRefusal.{CompileRefusal}
 use Rattle.case_graphs.specs.Limits.{AreAllWithin, compile_refusal}
 use Rattle.case_graphs.specs.declared.refusal.LimitRefusal.{LimitRefusal}
 use Rattle.compile_jobs.specs.Compiled.{IsCompiled, IsRefusedFor}
+use Rattle.compare_jobs.specs.Compared.{IsPastLimit as IsComparisonPast}
+use Rattle.compare_jobs.specs.Refused.{IsOfCase, refusal_line as comparison_line}
+use Rattle.comparison_maker.specs.declared.refusal.ComparisonRefusal.{ComparisonRefusal}
 use Rattle.config_base.specs.Configs.{PlainConfig}
 use Rattle.evidence_base.specs.Made.{PlainCaseEvidence}
 use Rattle.judging_jobs.specs.Linted.{IsRefusedFor as IsPastLimit}
@@ -26,8 +29,8 @@ use Rattle.run_base.specs.Reading.{Holds}
 use Rattle.scenarios.specs.Scenarios.{failures_of}
 use Rattle.propane_run.specs.declared.command.Command.{Command}
 use Rattle.propane_run.specs.declared.command.Command.TheVariants.{Compile, Evidence, Check, Explain, Sample, Migrate, Impact, RouteMap, CheckMap, Lint}
-use Rattle.propane_run.specs.declared.command.Command.TheVariants.{Audit, Help, Version, Promises, Maps, Between, Renew, Reuse, Under, After}
-use Rattle.propane_run.specs.Asked.{AsksFor, AsksOfRenewal, AsksOfReuse, IsFor}
+use Rattle.propane_run.specs.declared.command.Command.TheVariants.{Audit, Help, Version, Promises, Maps, Between, Renew, Reuse, Compare, Under, After}
+use Rattle.propane_run.specs.Asked.{AsksCompare, AsksFor, AsksOfRenewal, AsksOfReuse, IsFor}
 use Rattle.propane_run.specs.Auditing.{AsksAudit}
 use Rattle.propane_run.specs.Checking.{AsksOf}
 use Rattle.propane_run.specs.Mapping.{AsksOfConfig, AsksOfMaps}
@@ -95,5 +98,8 @@ module _ (holds : Holds) (words : List (List ℕ)) (Succeeds Fails : Type 0) (Re
       × ((e : CompileRefusal) → IsRefusedFor net policy e → Refuses (refusal_line net e))
       × (PrefsRunOut net policy old → Refuses (run_out_line (top_of old)))
       × (IsOther net policy old olds → Refuses other_line)
+  EndsRight Compare = (net : PlainNet) (old new : PlainPolicy) → AsksCompare holds words net old new
+      → (((e : ComparisonRefusal) → ¬ IsComparisonPast net old new e) → Succeeds)
+      × ((e : ComparisonRefusal) → IsOfCase e → IsComparisonPast net old new e → Refuses (comparison_line net e))
   EndsRight (Under outlook) = Compiles (Under outlook)
   EndsRight (After course) = Compiles (After course)

@@ -3,6 +3,7 @@ pub mod Asked
 pub mod Auditing
 pub mod Checking
 pub mod Clauses
+pub mod Comparing
 pub mod Compilation
 pub mod Ends
 pub mod Explaining

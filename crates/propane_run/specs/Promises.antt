@@ -18,7 +18,7 @@ use Rattle.run_base.specs.Reading.{Holds}
 use Rattle.run_base.specs.Said.{Whole}
 use Rattle.propane_run.specs.declared.command.Command.{Command}
 use Rattle.propane_run.specs.declared.command.Command.TheVariants.{Compile, Evidence, Check, Explain, Sample, Migrate, Impact, RouteMap, CheckMap, Lint}
-use Rattle.propane_run.specs.declared.command.Command.TheVariants.{Audit, Help, Version, Promises, Maps, Between, Renew, Reuse, Under, After}
+use Rattle.propane_run.specs.declared.command.Command.TheVariants.{Audit, Help, Version, Promises, Maps, Between, Renew, Reuse, Compare, Under, After}
 use Rattle.propane_run.specs.declared.command.Course.{Course}
 use Rattle.propane_run.specs.declared.command.Course.TheVariants.{Trace, Settle, Waiting}
 use Rattle.propane_run.specs.declared.command.Outlook.{Outlook}
@@ -26,6 +26,7 @@ use Rattle.propane_run.specs.declared.command.Outlook.TheVariants.{Replay, Drain
 use Rattle.propane_run.specs.Answering.{AnswersRight}
 use Rattle.propane_run.specs.Asked.{AsksFor, AsksOfRenewal, AsksOfReuse}
 use Rattle.propane_run.specs.Auditing.{AuditsRight, TellsAuditFault}
+use Rattle.propane_run.specs.Comparing.{ComparesRight, TellsComparisonLimit}
 use Rattle.propane_run.specs.Staging.{TellsTheWay, TellsTooLong, WritesStage}
 use Rattle.propane_run.specs.Checking.{AsksOf, ChecksRight, TellsFault}
 use Rattle.propane_run.specs.Explaining.{ExplainsRight}
@@ -101,6 +102,8 @@ Promised holds taken words (Reuse part) Refused s s' =
     RefusesRight holds taken words (Reuse part) s s'
     ⊎ TellsRunOut (λ net policy old. (olds : List PlainCaseEvidence) × AsksOfReuse holds words part net policy old olds) taken s s'
     ⊎ TellsOther holds taken words part s s'
+Promised holds taken words Compare Done s s' = ComparesRight holds taken words s s'
+Promised holds taken words Compare Refused s s' = TellsComparisonLimit holds taken words s s'
 Promised holds taken words (Under outlook) Done s s' = AnswersUnder holds taken words outlook s s'
 Promised holds taken words (Under outlook) Refused s s' = RefusesRight holds taken words (Under outlook) s s'
 Promised holds taken words (After course) Done s s' = AnswersAfter holds taken words course s s'

@@ -2,7 +2,7 @@
 use Rattle.std.specs.Prelude.{◌≡◌, ℕ, List, Option, Some, None}
 use Rattle.propane_run.specs.declared.command.Command.{Command}
 use Rattle.propane_run.specs.declared.command.Command.TheVariants.{Compile, Evidence, Check, Explain, Impact, RouteMap, CheckMap, Lint, Audit, Migrate}
-use Rattle.propane_run.specs.declared.command.Command.TheVariants.{Sample, Help, Version, Promises, Maps, Between, Renew, Reuse, Under, After}
+use Rattle.propane_run.specs.declared.command.Command.TheVariants.{Sample, Help, Version, Promises, Maps, Between, Renew, Reuse, Compare, Under, After}
 use Rattle.propane_run.specs.Outlooks.{WritesUnder, WritesAfter}
 use Rattle.propane_run.specs.Words.{names_read, usage, words_are}
 use Rattle.run_base.specs.Reading.{Holds, ReadsAll, AllHeld, FailedAs}
@@ -21,6 +21,7 @@ use Rattle.judging_jobs.specs.Linted as lint
 use Rattle.judging_jobs.specs.MapsJobs as maps
 use Rattle.judging_jobs.specs.ConfigMaps as config_maps
 use Rattle.stage_jobs.specs.Betweens as between
+use Rattle.compare_jobs.specs.Compared as comparisons
 use Rattle.judging_jobs.specs.Migrated as migrate
 use Rattle.compile_jobs.specs.Sampled.{SaysOfNumber}
 use Rattle.compile_jobs.specs.Written.{SaysOfPart}
@@ -50,8 +51,15 @@ Job Maps = config_maps.SaysOfTexts
 Job (Between stage) = between.SaysOfTexts stage
 Job (Renew part) = renewals.SaysOfTexts part
 Job (Reuse part) = reuses.SaysOfTexts part
+Job Compare = comparisons.SaysOfTexts
 Job (Under outlook) = SaysOfThree scenario_line scenario_spelled (WritesUnder outlook)
 Job (After course) = SaysOfThree events_line events_spelled (WritesAfter course)
+
+-- This says one thing of the same bytes. `compare` writes one text, but of which pair it is told that the limit on pairs is passed isn't proved
+-- to be one thing.
+abbrev pub SaysOneThing : Command → Type 0
+SaysOneThing Compare = ⊥
+SaysOneThing _ = Unit {0}
 
 abbrev pub IsAnswerOf : Holds → (List ℕ → Type 0) → List (List ℕ) → Option Command → Said → Type 0
 IsAnswerOf holds rose words None what = what ≡ usage

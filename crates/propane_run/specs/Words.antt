@@ -18,7 +18,7 @@ use Rattle.run_base.specs.Reading.{names_at, word_at}
 use Rattle.run_base.specs.Said.{Said, line}
 use Rattle.propane_run.specs.declared.command.Command.{Command}
 use Rattle.propane_run.specs.declared.command.Command.TheVariants.{Compile, Evidence, Check, Explain, Impact, RouteMap, CheckMap, Lint, Audit, Migrate}
-use Rattle.propane_run.specs.declared.command.Command.TheVariants.{Sample, Help, Version, Promises, Maps, Between, Renew, Reuse, Under, After}
+use Rattle.propane_run.specs.declared.command.Command.TheVariants.{Sample, Help, Version, Promises, Maps, Between, Renew, Reuse, Compare, Under, After}
 use Rattle.propane_run.specs.declared.command.Course.TheVariants.{Trace, Settle, Waiting}
 use Rattle.propane_run.specs.declared.command.Outlook.TheVariants.{Replay, Drain, WhatIf, Multipath}
 
@@ -80,6 +80,7 @@ command_of topic.Between rest = option_and_then (λ word. option_map (λ s. Betw
 command_of topic.Renew rest = Some (renewing part.Config rest)
 command_of topic.Renewal rest = Some (renewing part.Evidence rest)
 command_of topic.Waiting rest = Some (After Waiting)
+command_of topic.Compare rest = Some Compare
 
 -- how many names a command reads
 abbrev pub name_count : Command → ℕ
@@ -101,6 +102,7 @@ name_count Maps = 1
 name_count (Between stage) = 2
 name_count (Renew part) = 3
 name_count (Reuse part) = 4
+name_count Compare = 3
 name_count (Under outlook) = 3
 name_count (After course) = 3
 

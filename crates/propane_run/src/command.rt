@@ -92,6 +92,8 @@ pub enum Command {
     Renew(Part),
     /// `renew TOPO POLICY CONFIG EVIDENCE`, or `renewal` of the same: the part that it writes.
     Reuse(Part),
+    /// `compare TOPO OLD NEW`.
+    Compare,
     /// A command on a topology, a policy and a scenario.
     Under(Outlook),
     /// A command on a topology, a policy and events.
@@ -130,6 +132,7 @@ impl Command {
             Topic::Renew => Some(renewing(Part::Config, rest)),
             Topic::Renewal => Some(renewing(Part::Evidence, rest)),
             Topic::Waiting => Some(Command::After(Course::Waiting)),
+            Topic::Compare => Some(Command::Compare),
         }
     }
 
@@ -149,7 +152,7 @@ impl Command {
             | Command::Lint
             | Command::Promises
             | Command::Between(_) => 2,
-            Command::Renew(_) | Command::Under(_) | Command::After(_) => 3,
+            Command::Renew(_) | Command::Compare | Command::Under(_) | Command::After(_) => 3,
             Command::Check | Command::Reuse(_) => 4,
             Command::Audit => 6,
         }

@@ -9,6 +9,7 @@ ghost use Rattle.propane_run.specs.declared.command.Command.TheVariants.{Under, 
 ghost use Rattle.propane_run.specs.Words.{places_of, HasNumber};
 
 use crate::command::{Command, Course, Outlook};
+use compare_jobs::compare_texts;
 use compile_jobs::{Answer, Part, answered_texts, explain_texts, sample_summary, written_texts};
 use help_texts::{help, version};
 use judging_jobs::{
@@ -133,6 +134,7 @@ pub fn job(alloc: Global, command: &Command, texts: &[List<u8>]) -> Result<Vec<u
             text(texts, 2),
             text(texts, 3),
         ),
+        Command::Compare => { compare_texts(alloc, text(texts, 0), text(texts, 1), text(texts, 2)) }
         Command::Under(outlook) => under(alloc, outlook, texts),
         Command::After(course) => after(alloc, course, texts),
     }

@@ -54,7 +54,11 @@ refusal_values net NoMemory = []
 unfoldable pub refusal_text : PlainNet → CompileRefusal → List ℕ
 refusal_text net e = codes "refused " ++ decimal (number_of e) ++ codes " " ++ word_of e ++ refusal_values net e ++ codes "\n"
 
--- the line that tells it
+-- the line that tells it, with the words that say of which policy it is
+abbrev pub named_refusal_line : List ℕ → PlainNet → CompileRefusal → List ℕ
+named_refusal_line words net e = codes "propane: " ++ words ++ refusal_text net e
+
+-- the line that tells it where there is one policy
 abbrev pub refusal_line : PlainNet → CompileRefusal → List ℕ
 refusal_line net e = codes "propane: " ++ refusal_text net e
 

@@ -2,7 +2,8 @@
 //!
 //! `refusal_line` tells the number, the word and the values: the case, from 1, a router by its name in the topology, and two
 //! walks where a source is mixed. For a number that isn't a location's it names nothing. No refusal of the compiler has such
-//! a number, so the definition (`specs/RefusalLines`) needn't ask for it.
+//! a number, so the definition (`specs/RefusalLines`) needn't ask for it. Where there are two policies, `named_refusal_line` says
+//! of which the refusal is.
 //!
 //! `explanation` adds what shows a refusal for want of numbers: a line for each removed pair of nodes, with why the one may
 //! not stand as high as the other, and each node by the walk that leads to it. A line names a node by a function,
@@ -18,4 +19,4 @@ mod explanations;
 mod lines;
 
 pub use explanations::{accepted_line, explanation};
-pub use lines::refusal_line;
+pub use lines::{named_refusal_line, refusal_line};

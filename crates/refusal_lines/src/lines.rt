@@ -2,7 +2,7 @@
 ghost use Rattle.std.specs.Prelude.{◌≡◌, ◌++◌, ◌<◌, OnOk, IfOk, codes, length};
 ghost use Rattle.graph_base.specs.Walks.{IsEnteredFromBefore};
 ghost use Rattle.net_base.specs.Network.{name_of};
-ghost use Rattle.refusal_lines.specs.RefusalLines.{case_text, router_text, next_name, walk_text, walks_text, shown_text, pair_text, refusal_values, refusal_text, refusal_line as line_of, IsShowable};
+ghost use Rattle.refusal_lines.specs.RefusalLines.{case_text, router_text, next_name, walk_text, walks_text, shown_text, pair_text, refusal_values, refusal_text, named_refusal_line as named_line_of, refusal_line as line_of, IsShowable};
 
 use case_core::CompileRefusal;
 use graph_base::{Graph, walk_of};
@@ -158,13 +158,27 @@ pub fn push_refusal(
     push_bytes(line, b"\n")
 }
 
+/// The line that tells a refusal. Where there are several policies, these words in front of it say of which it is, as `old `.
+pub fn named_refusal_line(
+    alloc: Global,
+    words: &[u8],
+    net: &Net,
+    refusal: &CompileRefusal,
+) -> Result<Vec<u8>, NoMemory>
+    requires { IsShowable refusal.now }
+    ensures { IfOk result (λ v. v.items ≡ named_line_of words.now net.now refusal.now) }
+{
+    let mut line = Vec::new(alloc);
+    push_bytes(&mut line, b"propane: ")?;
+    push_bytes(&mut line, words)?;
+    push_refusal(alloc, &mut line, net, refusal)?;
+    Ok(line)
+}
+
 /// The line that tells a refusal.
 pub fn refusal_line(alloc: Global, net: &Net, refusal: &CompileRefusal) -> Result<Vec<u8>, NoMemory>
     requires { IsShowable refusal.now }
     ensures { IfOk result (λ v. v.items ≡ line_of net.now refusal.now) }
 {
-    let mut line = Vec::new(alloc);
-    push_bytes(&mut line, b"propane: ")?;
-    push_refusal(alloc, &mut line, net, refusal)?;
-    Ok(line)
+    named_refusal_line(alloc, b"", net, refusal)
 }

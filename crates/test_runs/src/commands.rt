@@ -19,7 +19,7 @@ pub(crate) const COMPILE: Row = (
 );
 
 /// Each command, as it ends in each way.
-pub(crate) const ROWS: [Row; 38] = [
+pub(crate) const ROWS: [Row; 39] = [
     COMPILE,
     (
         "evidence",
@@ -206,5 +206,33 @@ pub(crate) const ROWS: [Row; 38] = [
         &[Text::Routers, Text::AnyPath, Text::Events],
         &[],
         Status::Done,
+    ),
+    (
+        "compare",
+        &[Text::Routers, Text::AnyPath, Text::AnyPath],
+        &[],
+        Status::Done,
+    ),
+];
+
+/// Runs over two texts of policies of which one has a fault, and the line that tells in which it is.
+pub(crate) const FAULTS: [(Row, &str); 2] = [
+    (
+        (
+            "compare",
+            &[Text::Routers, Text::NoObject, Text::NoObject],
+            &[],
+            Status::BadInput,
+        ),
+        "propane: old policy 2 token at 1:1\n",
+    ),
+    (
+        (
+            "compare",
+            &[Text::Routers, Text::AnyPath, Text::NoObject],
+            &[],
+            Status::BadInput,
+        ),
+        "propane: new policy 2 token at 1:1\n",
     ),
 ];

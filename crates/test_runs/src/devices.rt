@@ -1,5 +1,5 @@
 //! Every command with each read and each write failing in turn, and sinks that take little at a time.
-use crate::commands::{COMPILE, ROWS, Row};
+use crate::commands::{COMPILE, FAULTS, ROWS, Row};
 use crate::runs::{End, Failing, TAKEN, end_of};
 use input_output::NoMemory;
 use propane_run::Status;
@@ -120,6 +120,22 @@ fn is_right(alloc: Global, row: &Row) -> Result<bool, NoMemory> {
 pub fn wrong_run(alloc: Global) -> Result<Option<usize>, NoMemory> {
     for number in 0..ROWS.len() {
         if !is_right(alloc, &ROWS[number])? {
+            return Ok(Some(number));
+        }
+    }
+    Ok(None)
+}
+
+// Whether a run tells this line alone.
+fn is_line_told(alloc: Global, row: &Row, line: &str) -> Result<bool, NoMemory> {
+    Ok(end_of(alloc, row, Failing::Nothing)?.tells(row.3, "", line))
+}
+
+/// The place of the first fault of one of two texts that is told otherwise.
+pub fn wrong_fault(alloc: Global) -> Result<Option<usize>, NoMemory> {
+    for number in 0..FAULTS.len() {
+        let (row, line) = &FAULTS[number];
+        if !is_line_told(alloc, row, line)? {
             return Ok(Some(number));
         }
     }

@@ -21,4 +21,4 @@ pub use callers::{
     are_bytes_counted, is_compiled_twice, is_read_again, is_sent_whole, is_usage_told,
     wrong_compiled,
 };
-pub use devices::{is_written_in_pieces, wrong_run};
+pub use devices::{is_written_in_pieces, wrong_fault, wrong_run};

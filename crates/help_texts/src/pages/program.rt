@@ -32,6 +32,7 @@ commands
   renew      write a configuration that may take over from an old one
   renewal    write the evidence for what renew writes
   waiting    tell which messages wait after a list of events
+  compare    tell what a new policy changes, for whom, and which walks show it
 
 propane help COMMAND writes how a command is used. Words that are no command
 end with status 2 and one line on the error output.
@@ -39,7 +40,7 @@ end with status 2 and one line on the error output.
 
 /// What is said of words that are no command: each command with the names of what it reads.
 pub const USAGE: &[u8] =
-    b"propane: usage: compile TOPO POLICY, evidence TOPO POLICY, check TOPO POLICY CONFIG EVIDENCE, explain TOPO POLICY, replay TOPO POLICY SCENARIO, trace TOPO POLICY EVENTS, sample N, migrate CONFIG, impact TOPO POLICY PREFIX, routemap TOPO POLICY, checkmap CONFIG MAPS, lint TOPO POLICY, audit TOPO POLICY CONFIG EVIDENCE SCENARIO TABLES, help [COMMAND], version, drain TOPO POLICY SCENARIO, settle TOPO POLICY EVENTS, promises TOPO POLICY, whatif TOPO POLICY SCENARIO, multipath TOPO POLICY SCENARIO, maps CONFIG, between BEFORE AFTER STAGE, renew TOPO POLICY CONFIG [EVIDENCE], renewal TOPO POLICY CONFIG [EVIDENCE], waiting TOPO POLICY EVENTS\n";
+    b"propane: usage: compile TOPO POLICY, evidence TOPO POLICY, check TOPO POLICY CONFIG EVIDENCE, explain TOPO POLICY, replay TOPO POLICY SCENARIO, trace TOPO POLICY EVENTS, sample N, migrate CONFIG, impact TOPO POLICY PREFIX, routemap TOPO POLICY, checkmap CONFIG MAPS, lint TOPO POLICY, audit TOPO POLICY CONFIG EVIDENCE SCENARIO TABLES, help [COMMAND], version, drain TOPO POLICY SCENARIO, settle TOPO POLICY EVENTS, promises TOPO POLICY, whatif TOPO POLICY SCENARIO, multipath TOPO POLICY SCENARIO, maps CONFIG, between BEFORE AFTER STAGE, renew TOPO POLICY CONFIG [EVIDENCE], renewal TOPO POLICY CONFIG [EVIDENCE], waiting TOPO POLICY EVENTS, compare TOPO OLD NEW\n";
 
 /// How `help` is used.
 pub const HELP: &str = "usage: propane help [COMMAND]

@@ -284,3 +284,36 @@ example
   cd examples/fabric
   propane multipath topology.json policy.propane no-failure.json
 ";
+
+/// How `compare` is used.
+pub const COMPARE: &str = "usage: propane compare TOPO OLD NEW
+
+Tells what a new policy changes beside an old one for the same network: for
+which prefixes, for which routers and sessions, and by which walk it shows. The
+rank of a walk is told for OLD and for NEW, and none where it is not permitted.
+Where the last line ends in changed 0, both say the same of every prefix, and a
+configuration is right for the one exactly where it is right for the other.
+Neither policy is compiled, so a policy that compile refuses is compared, too,
+unless it passes a limit.
+
+reads
+  TOPO  a topology text: routers, peers and links
+  OLD   the text of the old policy for that network
+  NEW   the text of the new policy for that network
+
+writes
+  output        the lines of each change, and how many of the cases change
+  error output  on status 1, 3 and 4 one line that says why
+
+status
+  0  the lines are written, whether something changes or not
+  1  a case of a policy passes a limit, or the pairs of cases do
+  3  an input is too long, or no text of its kind
+  4  an input cannot be read
+  5  the output, or the line, cannot be written whole
+  6  memory is refused; nothing is written
+
+example
+  cd examples/two-exits
+  propane compare topology.json policy.propane swapped.propane
+";
