@@ -10,8 +10,9 @@
 //! same two of these in either policy are one pair of cases (`pairs`), and each pair is looked at once. At each place of a pair, a router
 //! or its session to a peer, the pairs of ranks of its walks are its rows (`rows`), and only they are told.
 //!
-//! There is no code here but these types, and all that is proved is when two cases are one (`proofs/SameCases`). So the crates that find
-//! pairs, find rows and write them rest on one another's definitions and not on one another.
+//! There is no code here but these types, and nothing is proved but when two cases are one (`proofs/SameCases`) and what order numbers have
+//! of which there may be none (`proofs/Less`). So the crates that find pairs, find rows and write them rest on one another's definitions and
+//! not on one another.
 //!
 //! Only the order of ranks counts. An alternative that nothing meets can be taken out, and all later ranks become less by
 //! one, yet nothing has changed for anybody. The claim asks no more of a policy: whether a path is allowed, who is claimed,

@@ -8,5 +8,5 @@ pub mod Same
 mod Failing
 mod Alone
 mod Lost
-mod First
+pub mod First
 pub mod Unsaid

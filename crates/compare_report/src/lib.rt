@@ -13,7 +13,7 @@
 //! A reader begins with `compare_text`. That a text tells that nothing has changed exactly where nothing has is
 //! `texts_tell_whether_something_changed`.
 //!
-//! No command needs it yet.
+//! Compiling doesn't need it.
 //!
 //! It knows nothing of graphs, or of how pairs and rows are found.
 #![tactic(auto)]

@@ -6,7 +6,8 @@ use Rattle.std.proofs.lemmas.Option.{same_Some}
 use Rattle.list_law.specs.Members.{IsIn}
 use Rattle.list_law.proofs.Members.{IsIn-append_cases, IsIn-append_left, IsIn-append_right, IsIn-nil}
 use Rattle.compare_base.specs.declared.rows.Row.{Row}
-use Rattle.pair_rows.specs.Rows.{IsEarlier, IsLess}
+use Rattle.compare_base.specs.Order.{IsLess}
+use Rattle.pair_rows.specs.Rows.{IsEarlier}
 
 -- ---- in order
 

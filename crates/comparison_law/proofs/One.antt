@@ -1,62 +1,69 @@
--- What a pair changes is one thing, but for the walks that are shown.
-use Rattle.std.proofs.Common.{◌≡◌, ℕ, ◌<◌, List, [], ◌∷◌, Option, Some, None, refl, sym, ap, ◌∙◌, subst, arith, inl, inr, map}
-use Rattle.std.specs.Prelude.{slice_get}
-use Rattle.std.proofs.lemmas.Option.{same_Some, slice_get-map}
+-- What two policies change is one thing, and so is their comparison.
+use Rattle.std.proofs.Common.{◌≡◌, ℕ, ◌<◌, List, [], ◌∷◌, length, Some, refl, sym, ap, ◌∙◌, subst, arith, inl, inr, map}
+use Rattle.std.specs.Prelude.{option_map, slice_get}
+use Rattle.std.proofs.lemmas.Bool.{cases_lt}
+use Rattle.std.proofs.lemmas.List.{length-map}
+use Rattle.std.proofs.lemmas.Option.{same_Some, slice_get-map, slice_get_within}
 use Rattle.list_law.specs.Members.{IsIn}
-use Rattle.list_law.proofs.Members.{IsIn-map, IsIn-map_parts}
-use Rattle.list_law.proofs.Options.{option_map_parts}
+use Rattle.list_law.proofs.Items.{same_by_places, same_item, slice_get_inside}
+use Rattle.list_law.proofs.Members.{IsIn-map}
 use Rattle.net_base.specs.Network.{PlainNet}
 use Rattle.net_base.specs.Prefixes.{PlainPrefix}
 use Rattle.policy_base.specs.Policies.{PlainPolicy}
 use Rattle.impact_law.proofs.OneImpact.{not_itself, one_list, precedes_through}
+use Rattle.compare_base.specs.declared.pairs.Pair.{Pair}
 use Rattle.compare_base.specs.declared.rows.Kind.{Kind}
 use Rattle.compare_base.specs.declared.rows.PairChange.{PairChange}
 use Rattle.compare_base.specs.declared.rows.Place.{Place}
 use Rattle.compare_base.specs.declared.rows.Row.{Row}
 use Rattle.compare_base.specs.declared.rows.Words.{Words}
-use Rattle.pair_rows.specs.Rows.{AreRows, IsEarlier, IsLess}
+use Rattle.compare_law.proofs.First.{first_walks}
+use Rattle.comparison.specs.declared.values.ComparedPair.{ComparedPair}
+use Rattle.pair_rows.proofs.EarlierRows.{rows_are_one}
 use Rattle.row_words.specs.WordsOfRows.{shown_rows, words_of}
-use Rattle.pair_changes.specs.Changes.{AreCarriers, ComesFirst, Differs, IsKind, IsPairChange}
-use Rattle.comparison_law.specs.One.{ChangesAreOneButForWalks, kind_told}
+use Rattle.policy_pairs.proofs.OnePairs.{one_pairs}
+use Rattle.pair_changes.specs.Changes.{AreCarriers, AreFirstWalks, ComesFirst, Differs, IsExample, IsKind, IsPairChange, paths}
+use Rattle.comparison_law.specs.One.{ChangesAreOne, ComparisonsAreOne}
 
--- ---- rows
+-- ---- examples
 
-less_itself : (rank : Option ℕ) → IsLess rank rank → ⊥
-less_itself (Some i) less = absurd (omega (arith, less))
-less_itself None less = less
+-- where each place has one list of walks, the example of some places is one
+module _ (Has : Place → List (List ℕ) → Type 0) (once : (place : Place) (xs ys : List (List ℕ)) → Has place xs → Has place ys → xs ≡ ys) (places : List Place) where
+  no_sooner : (xs ys : List (List ℕ)) (a : IsExample Has places xs) (b : IsExample Has places ys) → a.index < b.index → ⊥
+  no_sooner xs ys a b less =
+      let fewer = b.first a.index a.place less a.there in
+      let no_more = a.most b.index b.place b.there in
+      let mine = ap paths (once a.place fewer.0 xs fewer.1 a.has) in
+      let theirs = ap paths (once b.place no_more.0 ys no_more.1 b.has) in
+      absurd (omega (arith, fewer.2, no_more.2, mine, theirs))
 
-less_through : (a b c : Option ℕ) → IsLess a b → IsLess b c → IsLess a c
-less_through (Some i) (Some j) (Some k) one other = omega (arith, one, other)
-less_through (Some i) (Some j) None one other = tt
-less_through (Some i) None c one other = absurd other
-less_through None b c one other = absurd one
-
-earlier_itself : (row : Row) → IsEarlier row row → ⊥
-earlier_itself row (inl less) = less_itself row.old less
-earlier_itself row (inr both) = less_itself row.new both.1
-
-earlier_through : (x y z : Row) → IsEarlier x y → IsEarlier y z → IsEarlier x z
-earlier_through x y z (inl one) (inl other) = inl (less_through x.old y.old z.old one other)
-earlier_through x y z (inl one) (inr other) = inl (subst (λ (rank : Option ℕ). IsLess x.old rank) other.0 one)
-earlier_through x y z (inr one) (inl other) = inl (subst (λ (rank : Option ℕ). IsLess rank z.old) (sym one.0) other)
-earlier_through x y z (inr one) (inr other) = inr (one.0 ∙ other.0, less_through x.new y.new z.new one.1 other.1)
+  example_one : (xs ys : List (List ℕ)) → IsExample Has places xs → IsExample Has places ys → xs ≡ ys
+  example_one xs ys a b = elim (cases_lt a.index b.index) [
+    | inl t ↦ absurd (no_sooner xs ys a b t)
+    | inr t ↦ elim (cases_lt b.index a.index) [
+      | inl u ↦ absurd (no_sooner ys xs b a u)
+      | inr u ↦
+          let same : b.place ≡ a.place = same_item places b.index a.index b.place a.place b.there a.there (omega (arith, t, u)) in
+          once a.place xs ys a.has (subst (λ (place : Place). Has place ys) same b.has)
+    ]
+  ]
 
 -- ---- kinds
 
 -- the first place of one kind comes before that of another
-record IsBefore (a b : Words × List Row × List Place) : Type 0 where
+record IsBefore (a b : Kind) : Type 0 where
   one : Place
   other : Place
-  is_first : slice_get a.2 0 ≡ Some one
-  is_other : slice_get b.2 0 ≡ Some other
+  is_first : slice_get a.places 0 ≡ Some one
+  is_other : slice_get b.places 0 ≡ Some other
   before : ComesFirst one other
 
-before_itself : (a : Words × List Row × List Place) → IsBefore a a → ⊥
+before_itself : (a : Kind) → IsBefore a a → ⊥
 before_itself a is =
     let same : is.one ≡ is.other = same_Some is.one is.other (sym is.is_first ∙ is.is_other) in
     not_itself is.one.router is.one.peer (subst (ComesFirst is.one) (sym same) is.before)
 
-before_through : (a b c : Words × List Row × List Place) → IsBefore a b → IsBefore b c → IsBefore a c
+before_through : (a b c : Kind) → IsBefore a b → IsBefore b c → IsBefore a c
 before_through a b c x y =
     let same : x.other ≡ y.one = same_Some x.other y.one (sym x.is_other ∙ y.is_first) in
     let before = subst (λ (place : Place). ComesFirst place y.other) (sym same) y.before in
@@ -73,13 +80,9 @@ first_of [] place at = absurd (let is = at.1 in cc)
 first_of (x ∷ xs) place at = (x, refl)
 
 module _ (net : PlainNet) (old new : PlainPolicy) (p : PlainPrefix) where
-  rows_one : (place : Place) (xs ys : List Row) → AreRows net old new p place xs → AreRows net old new p place ys → xs ≡ ys
-  rows_one place xs ys a b =
-      one_list IsEarlier earlier_itself earlier_through xs ys a.order b.order (λ row at. (b.those row).1 ((a.those row).0 at)) (λ row at. (a.those row).1 ((b.those row).0 at))
-
   differs_one : (w v : Words) (r s : List Row) (place : Place) → Differs net old new p w r place → Differs net old new p v s place → (w ≡ v) × (r ≡ s)
   differs_one w v r s place a b =
-      let rows = rows_one place a.rows b.rows a.are_rows b.are_rows in
+      let rows = rows_are_one net old new p place a.rows b.rows a.are_rows b.are_rows in
       (same_Some w v (sym a.in_words ∙ ap words_of rows ∙ b.in_words), a.are_shown ∙ ap shown_rows rows ∙ sym b.are_shown)
 
   to_place : (a b : Kind) → IsKind net old new p a → IsKind net old new p b → a.words ≡ b.words → a.rows ≡ b.rows → (place : Place) → IsIn a.places place → IsIn b.places place
@@ -93,42 +96,72 @@ module _ (net : PlainNet) (old new : PlainPolicy) (p : PlainPrefix) where
       one_list ComesFirst (λ x h. not_itself x.router x.peer h) (λ x y z h k. precedes_through x.router y.router z.router x.peer y.peer z.peer h k) a.places b.places
       one.order other.order (to_place a b one other words rows) (to_place b a other one (sym words) (sym rows))
 
+  walks_one : (rows : List Row) (place : Place) (xs ys : List (List ℕ)) → AreFirstWalks net old new p place rows xs → AreFirstWalks net old new p place rows ys → xs ≡ ys
+  walks_one rows place xs ys a b = same_by_places xs ys (a.count ∙ sym b.count) (λ i x y at_x at_y.
+      let row = slice_get_inside rows i (omega (arith, slice_get_within xs i x at_x, a.count)) in
+      first_walks net old new p place.router place.peer row.0 x y (a.each i row.0 x row.1 at_x) (b.each i row.0 y row.1 at_y))
+
+  kind_one : (a b : Kind) → IsKind net old new p a → IsKind net old new p b → a.words ≡ b.words → a.rows ≡ b.rows → a ≡ b
+  kind_one a b one other words rows =
+      let places = places_one a b one other words rows in
+      let theirs =
+      subst (λ (ps : List Place). IsExample (λ place. AreFirstWalks net old new p place a.rows) ps b.walks) (sym places)
+      (subst (λ (xs : List Row). IsExample (λ place. AreFirstWalks net old new p place xs) b.places b.walks) (sym rows) other.example) in
+      let walks = example_one (λ place. AreFirstWalks net old new p place a.rows) (walks_one a.rows) a.places a.walks b.walks one.example theirs in
+      λ i. record { words = words i; rows = rows i; places = places i; walks = walks i }
+
   module _ (a b : PairChange) (one : IsPairChange net old new p a) (other : IsPairChange net old new p b) where
-    kind_there : (told : Words × List Row × List Place) → IsIn (map kind_told a.kinds) told → IsIn (map kind_told b.kinds) told
-    kind_there told at =
-        let item = IsIn-map_parts kind_told a.kinds told at in
-        let kind = item.0 in
-        let is = one.each kind item.1 in
-        let place = is.example.0 in
-        let differs = (is.places place).0 is.example.1 in
+    kind_there : (kind : Kind) → IsIn a.kinds kind → IsIn b.kinds kind
+    kind_there kind at =
+        let is = one.each kind at in
+        let place = is.example.place in
+        let differs = (is.places place).0 (is.example.index, is.example.there) in
         let found = other.all kind.words kind.rows place differs in
         let theirs = other.each found.0 found.1 in
         let same = differs_one kind.words found.0.words kind.rows found.0.rows place differs ((theirs.places place).0 found.2) in
-        let places = places_one kind found.0 is theirs same.0 same.1 in
-        let told_same : kind_told found.0 ≡ told = sym (λ i. (same.0 i, same.1 i, places i)) ∙ item.2 in
-        subst (IsIn (map kind_told b.kinds)) told_same (IsIn-map kind_told b.kinds found.0 found.1)
+        subst (IsIn b.kinds) (sym (kind_one kind found.0 is theirs same.0 same.1)) found.1
 
-    kinds_ordered : (i j : ℕ) (x y : Words × List Row × List Place) → i < j → slice_get (map kind_told a.kinds) i ≡ Some x → slice_get (map kind_told a.kinds) j ≡ Some y → IsBefore x y
+    kinds_ordered : (i j : ℕ) (x y : Kind) → i < j → slice_get a.kinds i ≡ Some x → slice_get a.kinds j ≡ Some y → IsBefore x y
     kinds_ordered i j x y less at_x at_y =
-        let k = option_map_parts kind_told (slice_get a.kinds i) x (sym (slice_get-map kind_told a.kinds i) ∙ at_x) in
-        let m = option_map_parts kind_told (slice_get a.kinds j) y (sym (slice_get-map kind_told a.kinds j) ∙ at_y) in
-        let is_k = (one.each k.0 (i, k.1)).example in
-        let is_m = (one.each m.0 (j, m.1)).example in
-        let first = first_of k.0.places is_k.0 is_k.1 in
-        let second = first_of m.0.places is_m.0 is_m.1 in
-        let before = one.order i j k.0 m.0 less k.1 m.1 first.0 second.0 first.1 second.1 in
-        subst (λ told. IsBefore told y) k.2 (subst (IsBefore (kind_told k.0)) m.2
-        (record { one = first.0; other = second.0; is_first = first.1; is_other = second.1; before = before }))
+        let is_x = (one.each x (i, at_x)).example in
+        let is_y = (one.each y (j, at_y)).example in
+        let first = first_of x.places is_x.place (is_x.index, is_x.there) in
+        let second = first_of y.places is_y.place (is_y.index, is_y.there) in
+        record { one = first.0; other = second.0; is_first = first.1; is_other = second.1; before = one.order i j x y less at_x at_y first.0 second.0 first.1 second.1 }
 
   carriers_one : (from to : PlainPolicy) (xs ys : List ℕ) → AreCarriers net old new p from to xs → AreCarriers net old new p from to ys → xs ≡ ys
   carriers_one from to xs ys a b =
       one_list (λ m n. m < n) (λ n h. absurd (omega (arith, h))) (λ l m n h k. omega (arith, h, k)) xs ys a.order b.order
       (λ r at. (b.those r).1 ((a.those r).0 at)) (λ r at. (a.those r).1 ((b.those r).0 at))
 
-pub changes_are_one : ChangesAreOneButForWalks
-changes_are_one net old new p a b one other = record {
-  kinds = one_list IsBefore before_itself before_through (map kind_told a.kinds) (map kind_told b.kinds) (kinds_ordered net old new p a b one other)
-      (kinds_ordered net old new p b a other one) (kind_there net old new p a b one other) (kind_there net old new p b a other one);
-  lost = carriers_one net old new p old new a.lost b.lost one.lost other.lost;
-  gained = carriers_one net old new p new old a.gained b.gained one.gained other.gained;
-}
+pub changes_are_one : ChangesAreOne
+changes_are_one net old new p a b one other =
+    let kinds : a.kinds ≡ b.kinds =
+    one_list IsBefore before_itself before_through a.kinds b.kinds (kinds_ordered net old new p a b one other) (kinds_ordered net old new p b a other one)
+    (kind_there net old new p a b one other) (kind_there net old new p b a other one) in
+    let lost = carriers_one net old new p old new a.lost b.lost one.lost other.lost in
+    let gained = carriers_one net old new p new old a.gained b.gained one.gained other.gained in
+    λ i. record { kinds = kinds i; lost = lost i; gained = gained i }
+
+-- ---- comparisons
+
+abbrev pair_of : ComparedPair → Pair
+pair_of x = x.pair
+
+pub comparisons_are_one : ComparisonsAreOne
+comparisons_are_one net old new xs ys kept kept_too one other = same_by_places xs ys long each
+  where
+    pairs : map pair_of xs ≡ map pair_of ys
+    pairs = one_pairs net old new kept kept_too (map pair_of xs) (map pair_of ys) one.pairs other.pairs
+
+    long : length xs ≡ length ys
+    long = sym (length-map xs pair_of) ∙ ap length pairs ∙ length-map ys pair_of
+
+    each : (i : ℕ) (x y : ComparedPair) → slice_get xs i ≡ Some x → slice_get ys i ≡ Some y → x ≡ y
+    each i x y at_x at_y =
+        let pair : x.pair ≡ y.pair = same_Some x.pair y.pair
+        (sym (slice_get-map pair_of xs i ∙ ap (option_map pair_of) at_x) ∙ ap (λ (ps : List Pair). slice_get ps i) pairs ∙ slice_get-map pair_of ys i ∙ ap (option_map pair_of) at_y) in
+        let has = (one.pairs.each x.pair (IsIn-map pair_of xs x (i, at_x))).has in
+        let change = changes_are_one net old new has.0 x.change y.change (one.changes x has.0 (i, at_x) has.1 has.2)
+        (other.changes y has.0 (i, at_y) has.1 (has.2 ∙ ap (λ (q : Pair). q.cases) pair)) in
+        λ j. record { pair = pair j; change = change j }

@@ -16,6 +16,7 @@ use Rattle.net_base.proofs.NetSetLaws.{holds-peers}
 use Rattle.net_base.proofs.SetLaws.{IsWords-set_of, same_sets}
 use Rattle.policy_base.specs.Policies.{PlainPolicy}
 use Rattle.policy_base.specs.Governing.{is_origin_by, originated_at}
+use Rattle.evidence_law.proofs.CaseLists.{set_is}
 use Rattle.evidence_law.proofs.ClassFound.{originated_by}
 use Rattle.compare_base.specs.Cases.{is_place, pair_for, says_something}
 use Rattle.compare_base.specs.Ranks.{IsAlike}
@@ -38,16 +39,13 @@ set_holds : (net : PlainNet) → IsNet net → (o : Option LocSet) (l : ℕ) →
 set_holds net rules None l = ap (λ (set : ℕ → Bool). set l) (holds-peers net rules)
 set_holds net rules (Some at) l = refl
 
-sets_are : (s t : LocSet) → same_set s t ≡ true → s ≡ t
-sets_are s t same = let words = (bytes_eq-Decides s.words t.words).0 same in λ i. record { words = words i }
-
 are_sets : (s t : LocSet) → s ≡ t → same_set s t ≡ true
 are_sets s t same = (bytes_eq-Decides s.words t.words).1 (ap (λ (set : LocSet). set.words) same)
 
 module _ (net : PlainNet) (rules : IsNet net) where
   origins_from : (a b : Option LocSet) → same_set (origin_set net a) (origin_set net b) ≡ true → (l : ℕ) → is_origin_by net a l ≡ is_origin_by net b l
   origins_from a b same l =
-      sym (set_holds net rules a l) ∙ ap (λ (set : LocSet). holds set l) (sets_are (origin_set net a) (origin_set net b) same) ∙ set_holds net rules b l
+      sym (set_holds net rules a l) ∙ ap (λ (set : LocSet). holds set l) (set_is (origin_set net a) (origin_set net b) same) ∙ set_holds net rules b l
 
   origins_to : (a b : Option LocSet) → IsWords (origin_set net a) → IsWords (origin_set net b) → ((l : ℕ) → is_origin_by net a l ≡ is_origin_by net b l)
       → same_set (origin_set net a) (origin_set net b) ≡ true
@@ -105,9 +103,9 @@ module _ (net : PlainNet) (old new : PlainPolicy) (p : PlainPrefix) (rules : IsN
         | inr some ↦
             let kind = first_of x.change.kinds some in
             let shown = (change.each kind.0 kind.1).example in
-            let differs = ((change.each kind.0 kind.1).places shown.0).0 shown.1 in
-            absurd (rows_differ net old new p shown.0 kind.0.words kind.0.rows differs
-            (((rows_decide net old new p rules).0 alike).1 shown.0.router shown.0.peer differs.is_place))
+            let differs = ((change.each kind.0 kind.1).places shown.place).0 (shown.index, shown.there) in
+            absurd (rows_differ net old new p shown.place kind.0.words kind.0.rows differs
+            (((rows_decide net old new p rules).0 alike).1 shown.place.router shown.place.peer differs.is_place))
       ]
 
 -- ---- all pairs

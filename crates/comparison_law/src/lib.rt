@@ -1,5 +1,6 @@
-//! The laws of the comparison of two policies: no pair is told as differing exactly where they say the same of every prefix,
-//! a prefix whose pair isn't told is told the same by both, and each pair that is told differs. There is no code.
+//! The laws of the comparison of two policies: there is one, no pair is told as differing exactly where they say the same of
+//! every prefix, a prefix whose pair isn't told is told the same by both, and each pair that is told differs. There is no
+//! code.
 //!
 //! A comparison has all pairs of cases that prefixes have, each with what changes for its prefixes (`specs/Comparisons`). So it says what
 //! the policies say of every prefix. Where a pair has no other origins and no kind of difference, the rows of each place agree, and then
@@ -8,12 +9,15 @@
 //! That the rows of a place are a list is needed for this, and nobody has to make the list here: there are finitely many ranks, and what
 //! is asked of the rows is decided (`proofs/Listed`).
 //!
+//! Pairs, kinds, places and walks stand in an order that is said, and which walks show a kind is said, too. So two policies have one
+//! comparison (`proofs/One`), and what is told of it doesn't hang on how it was found.
+//!
 //! Compiling doesn't need it.
 //!
 //! It knows nothing of graphs, or of how a comparison is made or told.
 #![tactic(auto)]
 
-ghost use Rattle.comparison_law.specs.One.{ChangesAreOneButForWalks};
+ghost use Rattle.comparison_law.specs.One.{ChangesAreOne, ComparisonsAreOne};
 ghost use Rattle.comparison_law.specs.Laws.{SamePoliciesAreUnchanged, ToldPairsDiffer, UnchangedPoliciesAreSame, UnchangedPoliciesAreServedAlike, UntoldPrefixesAreAlike};
 
 /// Of a prefix whose pair isn't told as differing, or that has none, both policies say the same.
@@ -34,8 +38,13 @@ pub fn none_is_told_where_all_is_same()
     ensures served { UnchangedPoliciesAreServedAlike }
 {}
 
-/// What changes for a prefix is one thing, but for the walks that are shown: the kinds in their order, each with its words, rows and places,
-/// and who carries in one policy alone.
-pub fn changes_are_one_but_for_walks()
-    ensures { ChangesAreOneButForWalks }
+/// What two policies change for a prefix is one thing: the kinds in their order, each with its words, rows, places and walks, and who carries
+/// in one policy alone.
+pub fn changes_are_one()
+    ensures { ChangesAreOne }
+{}
+
+/// Two policies have one comparison.
+pub fn comparisons_are_one()
+    ensures { ComparisonsAreOne }
 {}

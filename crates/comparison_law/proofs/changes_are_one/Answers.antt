@@ -1,5 +1,5 @@
 use Rattle.comparison_law.proofs.One.{changes_are_one}
-use Rattle.comparison_law.proofs.changes_are_one_but_for_walks.Goals as goal
+use Rattle.comparison_law.proofs.changes_are_one.Goals as goal
 
 pub returns : goal.returns
 returns c = changes_are_one
