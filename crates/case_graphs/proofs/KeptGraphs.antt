@@ -1,6 +1,6 @@
 -- The graphs of the cases that were gone over are kept.
-use Rattle.std.proofs.Common.{◌≡◌, ℕ, zero, suc, ◌+◌, ◌≤◌, ◌<◌, Bool, true, false, length, Option, Some, None, refl, sym, ap, subst, ◌∙◌, inl, inr, arith}
-use Rattle.std.specs.Prelude.{◌⊎◌, if◌then◌else◌, unwrap_or, slice_get}
+use Rattle.std.proofs.Common.{◌≡◌, ℕ, zero, suc, ◌+◌, ◌≤◌, Bool, true, false, length, Option, Some, None, refl, sym, ap, subst, ◌∙◌, inl, inr, arith}
+use Rattle.std.specs.Prelude.{if◌then◌else◌, unwrap_or}
 use Rattle.std.proofs.lemmas.Bool.{cases_Bool, cases_order, false≢true}
 use Rattle.std.proofs.lemmas.Option.{same_Some, slice_get_within}
 use Rattle.list_law.proofs.Options.{cases_Option}
@@ -16,7 +16,6 @@ use Rattle.policy_base.specs.Meaning.{alternative_count}
 use Rattle.policy_base.specs.Policies.{PlainPolicy, PlainStatement, statement_at}
 use Rattle.policy_base.proofs.KnownCases.{IsKnown, case_known}
 use Rattle.graph_base.specs.Graphs.{PlainGraph}
-use Rattle.graph_law.specs.Limits.{IsBuiltWithin}
 use Rattle.path_exprs.specs.Forward.{expressions}
 use Rattle.path_exprs.specs.Standings.{Plan, plan_for}
 use Rattle.walk_states.specs.Built.{IsBuilt}
@@ -26,7 +25,7 @@ use Rattle.compare_base.specs.Same.{same_case}
 use Rattle.compare_base.proofs.SameCases.{case_is, case_same}
 use Rattle.case_core.specs.Refusals.{IsMade}
 use Rattle.case_graphs.specs.declared.graphs.CaseGraphs.{CaseGraphs}
-use Rattle.case_graphs.specs.Graphs.{AreCaseGraphs, HasCase, IsGraphFor, graph_in, no_graph, prefix_case}
+use Rattle.case_graphs.specs.Graphs.{AreCaseGraphs, HasCase, graph_in, no_graph, prefix_case}
 
 -- ---- one graph serves all of them
 

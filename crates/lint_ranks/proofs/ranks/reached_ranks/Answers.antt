@@ -2,7 +2,6 @@ use Rattle.std.proofs.Common.{◌≡◌, ◌+◌, ◌<◌, length, sym, ap, subs
 use Rattle.std.specs.Prelude.{◌&&◌, ◌||◌, ◌==◌, IfSome}
 use Rattle.std.specs.List.{AllByRecursion}
 use Rattle.std.proofs.lemmas.List.{length-map}
-use Rattle.policy_base.specs.declared.case.Case.{Case}
 use Rattle.policy_base.specs.Cases.{case_list}
 use Rattle.net_base.specs.Network.{PlainNet}
 use Rattle.policy_base.specs.Policies.{PlainPolicy, plain_statement, policy_of}
