@@ -28,7 +28,7 @@ MEANING = {
     "no-evidence": ["No preferences meet the compiler's rules: of the nodes at {0} to which the walks lead, no order will do.",
         "`explain` shows line by line which nodes are in each other's way; rank fewer things, or rank them alike at all routers."],
     "too-many-lines": ["The text would have {0} lines, and 1,000,000 are the most.", "Fewer patterns that overlap make fewer lines."],
-    "other-evidence": ["With what would stay by this evidence, nothing could take over: it is another configuration's.",
+    "other-evidence": ["With what would stay by this evidence, nothing could take over. This is known of other configurations' evidence alone.",
         "Name the evidence that was written for this configuration by `evidence` or `renewal`, or none."],
 }
 
