@@ -83,7 +83,14 @@ fn reused_cases(
     let numbers = beside.numbers(alloc)?;
     let mut all = List::new(alloc);
     for place in 0..compiled.len() {
-        let case = reused_case(alloc, beside, &numbers, place, &compiled[place], &renewed[place])?;
+        let case = reused_case(
+            alloc,
+            beside,
+            &numbers,
+            place,
+            &compiled[place],
+            &renewed[place],
+        )?;
         all.push(case)?;
     }
     Ok(all)

@@ -125,7 +125,12 @@ impl<'a> Beside<'a> {
     }
 
     /// The old case as which a compiled case stays whose class has this place, if it stays: as which it may stay and no later one may.
-    pub fn staying(&self, numbers: &[Option<usize>], place: usize, case: &CaseEvidence) -> Option<&'a CaseEvidence>
+    pub fn staying(
+        &self,
+        numbers: &[Option<usize>],
+        place: usize,
+        case: &CaseEvidence,
+    ) -> Option<&'a CaseEvidence>
         requires numbers { AreNumbers self.now.cells.now self.now.olds.now self.now.compiled.now numbers.now }
         requires at { slice_get self.now.compiled.now place ≡ Some case.now }
         ensures stays { IfSome result (λ e. Stays self.now.cells.now self.now.olds.now self.now.compiled.now place case.now e.now) }

@@ -39,7 +39,7 @@ module _ (net : PlainNet) (p : PlainPrefix) where
       by : (a b : Bool) → some_contains patterns o.prefix ≡ a → same_prefix o.prefix p ≡ b
           → find (λ (o : Origination). same_prefix o.prefix p) (filter (λ (o : Origination). some_contains patterns o.prefix) os) ≡ find (λ (o : Origination). same_prefix o.prefix p) os
           → find (λ (o : Origination). same_prefix o.prefix p) (filter (λ (o : Origination). some_contains patterns o.prefix) (o ∷ os))
-              ≡ find (λ (o : Origination). same_prefix o.prefix p) (o ∷ os)
+          ≡ find (λ (o : Origination). same_prefix o.prefix p) (o ∷ os)
       by true true e f later = rw (e, f) refl
       by true false e f later = rw (e, f) later
       by false true e f later = absurd (true≢false (sym contains ∙ ap (some_contains patterns) (sym (same_prefix-is o.prefix p f)) ∙ e))
