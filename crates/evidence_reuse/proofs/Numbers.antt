@@ -16,9 +16,9 @@ use Rattle.evidence_reuse.specs.Staying.{AreNumbers, IsNumber, IsOldClass, IsSam
 
 -- what stands in the rest stands behind as many
 from_rest : {A : Type 0} (n : ℕ) (xs : List A) (i : ℕ) → slice_get (drop n xs) i ≡ slice_get xs (n + i)
-from_rest zero xs i = refl
+from_rest zero xs i = let same : i ≡ 0 + i = omega arith in ap (slice_get xs) same
 from_rest (suc n) [] i = slice_get_past [] i (omega arith) ∙ sym (slice_get_past [] (suc n + i) (omega arith))
-from_rest (suc n) (x ∷ xs) i = from_rest n xs i
+from_rest (suc n) (x ∷ xs) i = let same : suc (n + i) ≡ suc n + i = omega arith in from_rest n xs i ∙ ap (slice_get (x ∷ xs)) same
 
 module _ (was : ℕ) (ns : List (Option ℕ)) (place : ℕ) where
   none_later : list_any (is_number was) (drop (place + 1) ns) ≡ false → (k : ℕ) → place < k → slice_get ns k ≡ Some (Some was) → ⊥

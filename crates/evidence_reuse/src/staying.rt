@@ -124,6 +124,20 @@ impl<'a> Beside<'a> {
         Ok(numbers)
     }
 
+    // The old case of this class, as which the case at this place may stay, unless a later one may.
+    fn unless_later(&self, numbers: &[Option<usize>], place: usize, case: &CaseEvidence, was: usize) -> Option<&'a CaseEvidence>
+        requires numbers { AreNumbers self.now.cells.now self.now.olds.now self.now.compiled.now numbers.now }
+        requires at { slice_get self.now.compiled.now place ≡ Some case.now }
+        requires may { slice_get numbers.now place ≡ Some (Some was) }
+        ensures stays { IfSome result (λ e. Stays self.now.cells.now self.now.olds.now self.now.compiled.now place case.now e.now) }
+        ensures none { IfNone result ((e : PlainCaseEvidence) → Stays self.now.cells.now self.now.olds.now self.now.compiled.now place case.now e → ⊥) }
+    {
+        if is_among(&numbers[place + 1..], was) {
+            return None;
+        }
+        self.olds.get(was.saturating_sub(1))
+    }
+
     /// The old case as which a compiled case stays whose class has this place, if it stays: as which it may stay and no later one may.
     pub fn staying(
         &self,
@@ -136,10 +150,9 @@ impl<'a> Beside<'a> {
         ensures stays { IfSome result (λ e. Stays self.now.cells.now self.now.olds.now self.now.compiled.now place case.now e.now) }
         ensures none { IfNone result ((e : PlainCaseEvidence) → Stays self.now.cells.now self.now.olds.now self.now.compiled.now place case.now e → ⊥) }
     {
-        let was = numbers[place]?;
-        if is_among(&numbers[place + 1..], was) {
-            return None;
+        match numbers[place] {
+            Some(was) => self.unless_later(numbers, place, case, was),
+            None => None,
         }
-        self.olds.get(was.saturating_sub(1))
     }
 }
