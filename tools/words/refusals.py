@@ -30,7 +30,7 @@ MEANING = {
     "too-many-lines": ["The text would have {0} lines, and 1,000,000 are the most.", "Fewer patterns that overlap make fewer lines."],
     "too-many-pairs": ["Up to these two statements there are more than 1,048,576 steps in which walks of the one or the other go on.",
         "Split a statement by prefix, or make one change after the other and compare each."],
-    "other-evidence": ["With what would stay by this evidence, nothing could take over: it is another configuration's.",
+    "other-evidence": ["With what would stay by this evidence, nothing could take over. This is known of other configurations' evidence alone.",
         "Name the evidence that was written for this configuration by `evidence` or `renewal`, or none."],
 }
 

@@ -1,7 +1,8 @@
 -- The lines of a configuration, each with its class and its place.
 use Rattle.std.specs.Prelude.{ℕ, ◌+◌, ◌==◌, Bool, ◌&&◌, true, false, List, [], ◌∷◌, ◌++◌, map}
 use Rattle.std.specs.List.{filter}
-use Rattle.net_base.specs.Prefixes.{same_prefix}
+use Rattle.net_base.specs.Prefixes.{PlainPattern, same_prefix}
+use Rattle.policy_base.specs.Governing.{some_contains}
 use Rattle.config_base.specs.declared.config.RouterConfig.{RouterConfig}
 use Rattle.config_base.specs.declared.config.Session.{Session}
 use Rattle.config_base.specs.declared.config.Import.{Import}
@@ -48,6 +49,17 @@ all_lines config = routers_from 0 config.routers
 -- the lines of a class
 abbrev pub of_class : ℕ → List ClassLine → List ClassLine
 of_class n ls = filter (λ l. l.class == n) ls
+
+-- ---- lines about some prefixes
+
+-- what a line says is about prefixes of these patterns: but for an `originate` line of another prefix, each line is
+abbrev pub is_about : List PlainPattern → Says → Bool
+is_about patterns (Originates p t) = some_contains patterns p
+is_about patterns (Takes t s n) = true
+is_about patterns (Sends t) = true
+
+abbrev pub lines_about : List PlainPattern → List ClassLine → List ClassLine
+lines_about patterns ls = filter (λ l. is_about patterns l.says) ls
 
 -- ---- the same lines
 

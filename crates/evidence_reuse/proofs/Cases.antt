@@ -6,14 +6,14 @@ use Rattle.std.proofs.lemmas.List.{length-append, length-map}
 use Rattle.std.proofs.lemmas.Option.{same_Some, slice_get-map, slice_get_within}
 use Rattle.list_law.proofs.Items.{from_front, same_by_places, same_item, slice_get-there, slice_get_inside}
 use Rattle.net_base.specs.declared.numbers.Tag.{Tag}
-use Rattle.net_base.specs.Prefixes.{PlainPattern}
 use Rattle.policy_base.specs.declared.case.Case.{Case}
 use Rattle.policy_base.specs.Policies.{PlainPolicy}
 use Rattle.evidence_base.specs.Made.{PlainCaseEvidence, patterns_of}
+use Rattle.stage_classes.specs.declared.cell.Cell.{Cell}
 use Rattle.evidence_renewal.specs.Renewed.{AreRenewedCases, IsRenewedCase, raised}
 use Rattle.evidence_renewal.proofs.Cases.{renewed_forth, same_cases}
 use Rattle.evidence_reuse.specs.Reused.{AreForEach, AreReused, IsReusedCase, classes_of, with_marks}
-use Rattle.evidence_reuse.specs.Staying.{Stays, rise}
+use Rattle.evidence_reuse.specs.Staying.{rise}
 use Rattle.evidence_reuse.proofs.Rising.{are_raised-is}
 
 -- A case with the graph of a compiled one, and its numbers, each raised by as much.
@@ -41,14 +41,14 @@ for_each taken by cs fs are = record {
 
 -- ---- reused cases
 
-module _ (old new : List (List PlainPattern)) (olds : List PlainCaseEvidence) where
-  alike_by : (k : ℕ) (c f d : PlainCaseEvidence) (taken : List Tag) (by : ℕ) → IsRenewedCase taken by c f → IsReusedCase old new olds k c f d → IsAlike c d
+module _ (between : List Cell) (olds cs : List PlainCaseEvidence) where
+  alike_by : (k : ℕ) (c f d : PlainCaseEvidence) (taken : List Tag) (by : ℕ) → IsRenewedCase taken by c f → IsReusedCase between olds cs k c f d → IsAlike c d
   alike_by k c f d taken by renews is = elim is.is [
     | inl stays ↦ record {
       case = ap (λ (x : PlainCaseEvidence). x.case) is.made;
       graph = ap (λ (x : PlainCaseEvidence). x.graph) is.made;
       by = rise c.numbers is.source.numbers;
-      numbers = ap (λ (x : PlainCaseEvidence). x.numbers) is.made ∙ are_raised-is (rise c.numbers is.source.numbers) c.numbers is.source.numbers stays.same.numbers;
+      numbers = ap (λ (x : PlainCaseEvidence). x.numbers) is.made ∙ are_raised-is (rise c.numbers is.source.numbers) c.numbers is.source.numbers stays.may.same.numbers;
     }
     | inr none ↦ record {
       case = ap (λ (x : PlainCaseEvidence). x.case) is.made;
@@ -58,7 +58,7 @@ module _ (old new : List (List PlainPattern)) (olds : List PlainCaseEvidence) wh
     }
   ]
 
-  module _ (taken : List Tag) (by : ℕ) (cs fs ds : List PlainCaseEvidence) (renewed : AreRenewedCases taken by cs fs) (are : AreReused old new olds cs fs ds) where
+  module _ (taken : List Tag) (by : ℕ) (fs ds : List PlainCaseEvidence) (renewed : AreRenewedCases taken by cs fs) (are : AreReused between olds cs fs ds) where
     -- each is of a compiled case
     pub alike_at : (k : ℕ) (d : PlainCaseEvidence) → slice_get ds k ≡ Some d → (c : PlainCaseEvidence) × (slice_get cs k ≡ Some c) × IsAlike c d
     alike_at k d at =
@@ -85,33 +85,33 @@ module _ (old new : List (List PlainPattern)) (olds : List PlainCaseEvidence) wh
   -- ---- one more
 
   -- so many of the compiled cases are reused
-  pub record AreReusedUpTo (cs fs all : List PlainCaseEvidence) (i : ℕ) : Type 0 where
+  pub record AreReusedUpTo (fs all : List PlainCaseEvidence) (i : ℕ) : Type 0 where
     pub long : length all ≡ i
-    pub each : (k : ℕ) (c f d : PlainCaseEvidence) → slice_get cs k ≡ Some c → slice_get fs k ≡ Some f → slice_get all k ≡ Some d → IsReusedCase old new olds k c f d
+    pub each : (k : ℕ) (c f d : PlainCaseEvidence) → slice_get cs k ≡ Some c → slice_get fs k ≡ Some f → slice_get all k ≡ Some d → IsReusedCase between olds cs k c f d
 
-  module _ (cs fs all : List PlainCaseEvidence) (i : ℕ) (are : AreReusedUpTo cs fs all i) where
-    push_each : (c f x : PlainCaseEvidence) → slice_get cs i ≡ Some c → slice_get fs i ≡ Some f → IsReusedCase old new olds i c f x
-        → (k : ℕ) (a b d : PlainCaseEvidence) → slice_get cs k ≡ Some a → slice_get fs k ≡ Some b → slice_get (all ++ x ∷ []) k ≡ Some d → IsReusedCase old new olds k a b d
+  module _ (fs all : List PlainCaseEvidence) (i : ℕ) (are : AreReusedUpTo fs all i) where
+    push_each : (c f x : PlainCaseEvidence) → slice_get cs i ≡ Some c → slice_get fs i ≡ Some f → IsReusedCase between olds cs i c f x
+        → (k : ℕ) (a b d : PlainCaseEvidence) → slice_get cs k ≡ Some a → slice_get fs k ≡ Some b → slice_get (all ++ x ∷ []) k ≡ Some d → IsReusedCase between olds cs k a b d
     push_each c f x at also is k a b d here there said = elim (cases_lt k i) [
       | inl before ↦ are.each k a b d here there (from_front all (x ∷ []) k d said (omega (arith, before, are.long)))
       | inr after ↦
           let end : length (all ++ x ∷ []) ≡ length all + 1 = length-append all (x ∷ []) in
           let last : k ≡ i = omega (arith, after, slice_get_within (all ++ x ∷ []) k d said, end, are.long) in
           let same : x ≡ d = same_item (all ++ x ∷ []) (length all) k x d (slice_get-there all x []) said (are.long ∙ sym last) in
-          let P : PlainCaseEvidence → Type 0 = λ y. IsReusedCase old new olds k y f x in
-          let Q : PlainCaseEvidence → Type 0 = λ y. IsReusedCase old new olds k a y x in
-          let R : PlainCaseEvidence → Type 0 = λ y. IsReusedCase old new olds k a b y in
-          subst R same (subst Q (same_item fs i k f b also there (sym last)) (subst P (same_item cs i k c a at here (sym last)) (subst (λ j. IsReusedCase old new olds j c f x) (sym last) is)))
+          let P : PlainCaseEvidence → Type 0 = λ y. IsReusedCase between olds cs k y f x in
+          let Q : PlainCaseEvidence → Type 0 = λ y. IsReusedCase between olds cs k a y x in
+          let R : PlainCaseEvidence → Type 0 = λ y. IsReusedCase between olds cs k a b y in
+          subst R same (subst Q (same_item fs i k f b also there (sym last)) (subst P (same_item cs i k c a at here (sym last)) (subst (λ j. IsReusedCase between olds cs j c f x) (sym last) is)))
     ]
 
-    pub one_more : (next : List PlainCaseEvidence) (c f x : PlainCaseEvidence) → slice_get cs i ≡ Some c → slice_get fs i ≡ Some f → IsReusedCase old new olds i c f x
-        → next ≡ all ++ x ∷ [] → AreReusedUpTo cs fs next (i + 1)
+    pub one_more : (next : List PlainCaseEvidence) (c f x : PlainCaseEvidence) → slice_get cs i ≡ Some c → slice_get fs i ≡ Some f → IsReusedCase between olds cs i c f x
+        → next ≡ all ++ x ∷ [] → AreReusedUpTo fs next (i + 1)
     one_more next c f x at also is same = record {
       long = ap length same ∙ length-append all (x ∷ []) ∙ ap (λ n. n + 1) are.long;
       each = λ k a b d here there said. push_each c f x at also is k a b d here there (subst (λ xs. slice_get xs k ≡ Some d) same said);
     }
 
-    pub all_reused : i ≡ length cs → AreReused old new olds cs fs all
+    pub all_reused : i ≡ length cs → AreReused between olds cs fs all
     all_reused end = record { count = are.long ∙ end; each = are.each }
 
 -- the classes of renewed cases are those of the compiled ones

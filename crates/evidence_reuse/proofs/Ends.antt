@@ -2,13 +2,12 @@
 use Rattle.std.proofs.Common.{◌≡◌, ◌≢◌, ◌↔◌, ℕ, ◌<◌, ◌+◌, ◌-◌, Bool, true, false, List, length, Option, Some, None, sym, ap, ◌∙◌, subst, arith, IsTrue}
 use Rattle.std.specs.Prelude.{slice_get}
 use Rattle.std.specs.List.{list_any}
-use Rattle.std.proofs.lemmas.Bool.{both_ways, false≢true}
+use Rattle.std.proofs.lemmas.Bool.{true≢false}
 use Rattle.std.proofs.lemmas.Option.{same_Some}
 use Rattle.std.specs.List.{AllByRecursion}
 use Rattle.net_base.specs.declared.limits.TheConstants.{LOCATIONS}
 use Rattle.net_base.specs.declared.numbers.Tag.{Tag}
 use Rattle.net_base.specs.Network.{PlainNet}
-use Rattle.net_base.specs.Prefixes.{PlainPattern}
 use Rattle.policy_base.specs.declared.case.Case.{Case}
 use Rattle.policy_base.specs.Policies.{PlainPolicy}
 use Rattle.graph_base.specs.declared.graph.Node.{Node}
@@ -18,26 +17,19 @@ use Rattle.config_maker.proofs.OneConfiguration.{one_configuration}
 use Rattle.evidence_base.specs.Evidence.{IsCaseEvidence}
 use Rattle.evidence_base.specs.Made.{PlainCaseEvidence, IsConfigOf}
 use Rattle.stage_check.specs.Verdicts.{verdict}
-use Rattle.stage_classes.specs.Cells.{cells}
+use Rattle.stage_classes.specs.declared.cell.Cell.{Cell}
 use Rattle.evidence_reuse.specs.Reused.{LetsTakeOver, MayNot, with_marks}
 use Rattle.evidence_reuse.specs.Staying.{IsOldClass, is_other, partner}
 
--- ---- an item at a place of each of two lists
-
-pub items_alike : {A : Type 0} (b : Bool) (o n : Option A) (x y : A) → o ≡ Some x → n ≡ Some y → IsTrue b ↔ x ≡ y → IsTrue b ↔ o ≡ n
-items_alike b o n x y at there is = (λ t. at ∙ ap Some (is.0 t) ∙ sym there, λ same. is.1 (let both : Some x ≡ Some y = sym at ∙ same ∙ there in cc))
-
-pub item_missing : {A : Type 0} (o n : Option A) (y : A) → o ≡ None → n ≡ Some y → IsTrue false ↔ o ≡ n
-item_missing o n y none there = (λ t. absurd (false≢true t), λ same. absurd (let clash : None ≡ Some y = sym none ∙ same ∙ there in cc))
-
 -- ---- no old class
 
-module _ (old new : List (List PlainPattern)) (place : ℕ) where
-  pub no_partner : partner (length old) (cells old new) (place + 1) ≡ None → (was : ℕ) → IsOldClass old new place was → ⊥
+module _ (between : List Cell) (olds : List PlainCaseEvidence) (place : ℕ) where
+  pub no_partner : partner olds between (place + 1) ≡ None → (was : ℕ) → IsOldClass between olds place was → ⊥
   no_partner none was is = let clash : None ≡ Some was = sym none ∙ is.shares in cc
 
-  pub not_partner : (m : ℕ) → partner (length old) (cells old new) (place + 1) ≡ Some m → (IsOldClass old new place m → ⊥) → (was : ℕ) → IsOldClass old new place was → ⊥
-  not_partner m at never was is = never (subst (IsOldClass old new place) (same_Some was m (sym is.shares ∙ at)) is)
+  pub not_alone : (m : ℕ) → partner olds between (place + 1) ≡ Some m → list_any (is_other olds (place + 1) m) between ≡ true → (was : ℕ) → IsOldClass between olds place was → ⊥
+  not_alone m at some was is =
+      true≢false (sym some ∙ ap (λ w. list_any (is_other olds (place + 1) w) between) (same_Some m was (sym at ∙ is.shares)) ∙ is.alone)
 
 -- ---- a case with the numbers and tags of another one
 

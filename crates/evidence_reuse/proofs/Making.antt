@@ -6,6 +6,7 @@ use Rattle.net_base.specs.Prefixes.{PlainPattern}
 use Rattle.policy_base.specs.CaseNumbers.{OriginsAreRouters}
 use Rattle.policy_base.specs.Policies.{IsPolicy, PlainPolicy}
 use Rattle.config_base.specs.Configs.{PlainConfig}
+use Rattle.stage_classes.specs.declared.cell.Cell.{Cell}
 use Rattle.config_maker.specs.Conditions.{AreClasses, AreSingle, IsSingle}
 use Rattle.config_maker.proofs.CaseClasses.{case_lists}
 use Rattle.evidence_base.specs.Made.{PlainCaseEvidence, patterns_of}
@@ -18,49 +19,40 @@ use Rattle.evidence_renewal.specs.Renewed.{AreRenewed, IsFaultOf}
 use Rattle.evidence_renewal.proofs.Cases.{same_cases}
 use Rattle.evidence_reuse.specs.declared.fault.ReuseFault.{ReuseFault}
 use Rattle.evidence_reuse.specs.declared.fault.ReuseFault.TheVariants.{NoMemory, OtherEvidence, PrefsRunOut}
-use Rattle.evidence_reuse.specs.Reused.{AreReused, IsFault, IsReusedEvidence, IsStop, classes_of, of_renewal}
+use Rattle.evidence_reuse.specs.Reused.{AreReused, IsFault, IsReusedEvidence, IsStop, classes_of, of_renewal, pairs_with}
 use Rattle.evidence_reuse.proofs.Cases.{alike_at, for_each, same_classes, same_list}
 
 module _ (net : PlainNet) (policy : PlainPolicy) (old : PlainConfig) (olds ds : List PlainCaseEvidence) (is : IsReusedEvidence net policy old olds ds) where
   same : map (λ (d : PlainCaseEvidence). d.case) ds ≡ map (λ (c : PlainCaseEvidence). c.case) is.compiled
-  same = same_list _ _ _ _ _ is.compiled is.renewed ds is.are_renewed is.reused
+  same = same_list _ _ is.compiled _ _ is.renewed ds is.are_renewed is.reused
 
   pub classes : IsPolicy policy → AreClasses policy (map (λ (e : PlainCaseEvidence). e.case) ds)
   classes kept = subst (AreClasses policy) (sym (same ∙ is.made.2.made.cases)) (case_lists net policy kept)
 
   pub singles : IsNet net → OriginsAreRouters net policy.origins → AreSingle net ds
   singles rules routers k d at =
-      let o = alike_at _ _ _ _ _ is.compiled is.renewed ds is.are_renewed is.reused k d at in
+      let o = alike_at _ _ is.compiled _ _ is.renewed ds is.are_renewed is.reused k d at in
       subst (IsSingle net) (sym o.2.graph) (compiled_configs.singles net policy is.compiled is.made rules routers k o.0 o.1)
 
 -- ---- of what is compiled
 
 module _ (net : PlainNet) (policy : PlainPolicy) (old : PlainConfig) (olds compiled : List PlainCaseEvidence) where
   module _ (made : IsEvidenceOfMade net policy compiled) (renewed : List PlainCaseEvidence) (are : AreRenewed old compiled renewed) where
-    -- with the classes of the configuration that is made of what is renewed
-    abbrev reused_evidence : (ds : List PlainCaseEvidence) (new : List (List PlainPattern)) → new ≡ classes_of policy renewed → AreReused old.classes new olds compiled renewed ds
-        → IsReusedEvidence net policy old olds ds
-    reused_evidence ds new is reused = record {
-      compiled = compiled;
-      made = made;
-      renewed = renewed;
-      are_renewed = are;
-      reused = subst (λ (ps : List (List PlainPattern)). AreReused old.classes ps olds compiled renewed ds) is reused;
-    }
-
-    abbrev pub reused_by : (first new : List (List PlainPattern)) (cases cs fs ds : List PlainCaseEvidence) → first ≡ old.classes → new ≡ classes_of policy renewed → cases ≡ olds → cs ≡ compiled
-        → fs ≡ renewed → AreReused first new cases cs fs ds → IsReusedEvidence net policy old olds ds
-    reused_by first new cases cs fs ds first_is new_is cases_are cs_are fs_are reused =
-        let A : List (List PlainPattern) → Type 0 = λ ps. AreReused ps new cases cs fs ds in
-        let B : List PlainCaseEvidence → Type 0 = λ xs. AreReused old.classes new xs cs fs ds in
-        let C : List PlainCaseEvidence → Type 0 = λ xs. AreReused old.classes new olds xs fs ds in
-        let D : List PlainCaseEvidence → Type 0 = λ xs. AreReused old.classes new olds compiled xs ds in
-        reused_evidence ds new new_is (subst D fs_are (subst C cs_are (subst B cases_are (subst A first_is reused))))
-
-    pub class_count : (new : List (List PlainPattern)) → new ≡ classes_of policy renewed → length new ≡ length compiled
-    class_count new is =
-        let patterns : PlainCaseEvidence → List PlainPattern = λ c. patterns_of policy c.case in
-        ap length is ∙ length-map renewed patterns ∙ (for_each _ _ compiled renewed are).count
+    -- with the pairs of classes of the configuration that is made of what is renewed
+    abbrev pub reused_by : (between : List Cell) (cases cs fs ds : List PlainCaseEvidence) → between ≡ pairs_with old policy renewed → cases ≡ olds → cs ≡ compiled → fs ≡ renewed
+        → AreReused between cases cs fs ds → IsReusedEvidence net policy old olds ds
+    reused_by between cases cs fs ds between_is cases_are cs_are fs_are reused =
+        let A : List Cell → Type 0 = λ xs. AreReused xs cases cs fs ds in
+        let B : List PlainCaseEvidence → Type 0 = λ xs. AreReused (pairs_with old policy renewed) xs cs fs ds in
+        let C : List PlainCaseEvidence → Type 0 = λ xs. AreReused (pairs_with old policy renewed) olds xs fs ds in
+        let D : List PlainCaseEvidence → Type 0 = λ xs. AreReused (pairs_with old policy renewed) olds compiled xs ds in
+        record {
+          compiled = compiled;
+          made = made;
+          renewed = renewed;
+          are_renewed = are;
+          reused = subst D fs_are (subst C cs_are (subst B cases_are (subst A between_is reused)));
+        }
 
   -- the classes are those of what is renewed
   pub classes_alike : (ds : List PlainCaseEvidence) (is : IsReusedEvidence net policy old olds ds) → classes_of policy is.renewed ≡ classes_of policy ds

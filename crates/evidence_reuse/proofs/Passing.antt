@@ -55,5 +55,5 @@ alike_passes net policy first config cs ds passes same alike tags lines =
 pub passing : ReusedEvidencePasses
 passing net policy old config olds ds is =
     let e = is.evidence in
-    alike_passes net policy e.made.0 config e.compiled ds e.made.2 (same_list _ _ _ _ _ e.compiled e.renewed ds e.are_renewed e.reused)
-    (alike_at _ _ _ _ _ e.compiled e.renewed ds e.are_renewed e.reused) (are_tags net ds is.takes_over.tags) is.takes_over.lines
+    alike_passes net policy e.made.0 config e.compiled ds e.made.2 (same_list _ _ e.compiled _ _ e.renewed ds e.are_renewed e.reused)
+    (alike_at _ _ e.compiled _ _ e.renewed ds e.are_renewed e.reused) (are_tags net ds is.takes_over.tags) is.takes_over.lines

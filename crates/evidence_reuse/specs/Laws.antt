@@ -5,7 +5,7 @@ use Rattle.policy_base.specs.Policies.{PlainPolicy}
 use Rattle.config_base.specs.Configs.{PlainConfig}
 use Rattle.evidence_base.specs.Made.{PlainCaseEvidence}
 use Rattle.evidence_law.specs.Passes.{Passes}
-use Rattle.evidence_reuse.specs.Reused.{IsReuse, IsReusedEvidence, classes_of}
+use Rattle.evidence_reuse.specs.Reused.{IsReuse, IsReusedEvidence, pairs_with}
 use Rattle.evidence_reuse.specs.Staying.{Stays}
 
 -- its evidence passes
@@ -18,7 +18,7 @@ abbrev pub WhatStaysIsKept : Type 0
 WhatStaysIsKept =
     (net : PlainNet) (policy : PlainPolicy) (old : PlainConfig) (olds ds : List PlainCaseEvidence) (is : IsReusedEvidence net policy old olds ds)
     (k : ℕ) (c d e : PlainCaseEvidence) → slice_get is.compiled k ≡ Some c → slice_get ds k ≡ Some d
-    → Stays old.classes (classes_of policy is.renewed) olds k c e → (d.graph ≡ e.graph) × (d.numbers ≡ e.numbers) × (d.tags ≡ e.tags)
+    → Stays (pairs_with old policy is.renewed) olds is.compiled k c e → (d.graph ≡ e.graph) × (d.numbers ≡ e.numbers) × (d.tags ≡ e.tags)
 
 -- there is one
 abbrev pub ReusesAreOne : Type 0

@@ -12,6 +12,8 @@ use Rattle.compile_core.specs.Compiling.{IsEvidenceOfMade}
 use Rattle.evidence_renewal.specs.declared.fault.RenewalFault.{RenewalFault}
 use Rattle.evidence_renewal.specs.declared.fault.RenewalFault.TheVariants as renewal
 use Rattle.evidence_renewal.specs.Renewed.{AreRenewed, RunsOut}
+use Rattle.stage_classes.specs.declared.cell.Cell.{Cell}
+use Rattle.stage_classes.specs.Cells.{cells}
 use Rattle.stage_check.specs.declared.judging.Verdict.{Verdict}
 use Rattle.stage_check.specs.declared.judging.Verdict.TheVariants.{LowPref, SharedTag}
 use Rattle.stage_check.specs.Verdicts.{verdict}
@@ -25,10 +27,10 @@ use Rattle.evidence_reuse.specs.Staying.{Stays}
 abbrev pub with_marks : PlainCaseEvidence → PlainCaseEvidence → PlainCaseEvidence
 with_marks c x = record { case = c.case; graph = c.graph; numbers = x.numbers; tags = x.tags }
 
-module _ (old new : List (List PlainPattern)) (olds : List PlainCaseEvidence) where
+module _ (between : List Cell) (olds cs : List PlainCaseEvidence) where
   -- From where a compiled case has its numbers and tags: from the old case as which it stays, or where there is none from the renewed one.
   abbrev pub IsSource : ℕ → PlainCaseEvidence → PlainCaseEvidence → PlainCaseEvidence → Type 0
-  IsSource place c renewed x = Stays old new olds place c x ⊎ ((x ≡ renewed) × ((e : PlainCaseEvidence) → ¬ Stays old new olds place c e))
+  IsSource place c renewed x = Stays between olds cs place c x ⊎ ((x ≡ renewed) × ((e : PlainCaseEvidence) → ¬ Stays between olds cs place c e))
 
   pub record IsReusedCase (place : ℕ) (c renewed d : PlainCaseEvidence) : Type 0 where
     pub source : PlainCaseEvidence
@@ -36,7 +38,7 @@ module _ (old new : List (List PlainPattern)) (olds : List PlainCaseEvidence) wh
     pub made : d ≡ with_marks c source
 
   -- so is each of the compiled cases
-  pub record AreReused (cs renewed ds : List PlainCaseEvidence) : Type 0 where
+  pub record AreReused (renewed ds : List PlainCaseEvidence) : Type 0 where
     pub count : length ds ≡ length cs
     pub each : (k : ℕ) (c f d : PlainCaseEvidence) → slice_get cs k ≡ Some c → slice_get renewed k ≡ Some f → slice_get ds k ≡ Some d → IsReusedCase k c f d
 
@@ -48,6 +50,10 @@ pub record AreForEach (cs renewed : List PlainCaseEvidence) : Type 0 where
 -- the patterns of the classes of cases
 abbrev pub classes_of : PlainPolicy → List PlainCaseEvidence → List (List PlainPattern)
 classes_of policy cs = map (λ (c : PlainCaseEvidence). patterns_of policy c.case) cs
+
+-- the pairs of a class of an old configuration and one of these cases that share prefixes
+abbrev pub pairs_with : PlainConfig → PlainPolicy → List PlainCaseEvidence → List Cell
+pairs_with old policy cs = cells old.classes (classes_of policy cs)
 
 -- ---- what may take over
 
@@ -75,14 +81,14 @@ pub record IsReusedEvidence (net : PlainNet) (policy : PlainPolicy) (old : Plain
   pub made : IsEvidenceOfMade net policy compiled
   pub renewed : List PlainCaseEvidence
   pub are_renewed : AreRenewed old compiled renewed
-  pub reused : AreReused old.classes (classes_of policy renewed) olds compiled renewed ds
+  pub reused : AreReused (pairs_with old policy renewed) olds compiled renewed ds
 
 -- and the configuration that is made of it, which may take over
 pub record IsReuse (net : PlainNet) (policy : PlainPolicy) (old : PlainConfig) (olds : List PlainCaseEvidence) (config : PlainConfig) (ds : List PlainCaseEvidence) : Type 0 where
   pub evidence : IsReusedEvidence net policy old olds ds
   pub takes_over : MayTakeOver net policy old config ds
 
--- None may: the evidence isn't that of the old configuration.
+-- None may, with what stays by this evidence.
 pub record IsOther (net : PlainNet) (policy : PlainPolicy) (old : PlainConfig) (olds : List PlainCaseEvidence) : Type 0 where
   pub cases : List PlainCaseEvidence
   pub evidence : IsReusedEvidence net policy old olds cases

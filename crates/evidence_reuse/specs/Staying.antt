@@ -1,33 +1,35 @@
 -- Which compiled cases stay as an old configuration has them.
-use Rattle.std.specs.Prelude.{◌≡◌, ℕ, ◌+◌, ◌-◌, ◌==◌, nat_le, Bool, true, false, ◌&&◌, not, List, [], ◌∷◌, length, Option, Some, option_map, slice_get}
+use Rattle.std.specs.Prelude.{◌≡◌, ℕ, ◌+◌, ◌-◌, ◌<◌, ◌==◌, nat_lt, Bool, true, false, ◌&&◌, not, List, [], ◌∷◌, length, Option, Some, None, option_map, slice_get}
 use Rattle.std.specs.List.{find, list_any}
-use Rattle.net_base.specs.Prefixes.{PlainPattern}
 use Rattle.evidence_base.specs.Made.{PlainCaseEvidence}
 use Rattle.free_tags.specs.Taken.{greatest}
 use Rattle.stage_classes.specs.declared.cell.Cell.{Cell}
-use Rattle.stage_classes.specs.Cells.{cells}
 use Rattle.evidence_renewal.specs.Renewed.{raised}
 
 -- ---- classes
 
--- the cell is of this class of the new configuration, and of a class of the old one, which has so many
-abbrev pub is_pair : ℕ → ℕ → Cell → Bool
-is_pair count class cell = cell.second == class && nat_le cell.first count
+-- there is a case, and it has nodes: without any its class has no lines
+abbrev pub has_nodes : Option PlainCaseEvidence → Bool
+has_nodes None = false
+has_nodes (Some e) = nat_lt 0 (length e.graph.nodes)
+
+-- the cell is of this class of the new configuration, and of a class of the old one whose case has nodes
+abbrev pub is_pair : List PlainCaseEvidence → ℕ → Cell → Bool
+is_pair olds class cell = cell.second == class && has_nodes (slice_get olds (cell.first - 1))
 
 -- and of another class of the old one than this
-abbrev pub is_other : ℕ → ℕ → ℕ → Cell → Bool
-is_other count class was cell = is_pair count class cell && not (cell.first == was)
+abbrev pub is_other : List PlainCaseEvidence → ℕ → ℕ → Cell → Bool
+is_other olds class was cell = is_pair olds class cell && not (cell.first == was)
 
--- the first class of the old configuration with which a class shares prefixes
-abbrev pub partner : ℕ → List Cell → ℕ → Option ℕ
-partner count cs class = option_map (λ (c : Cell). c.first) (find (is_pair count class) cs)
+-- the first class of the old configuration with nodes with which a class shares prefixes
+abbrev pub partner : List PlainCaseEvidence → List Cell → ℕ → Option ℕ
+partner olds cs class = option_map (λ (c : Cell). c.first) (find (is_pair olds class) cs)
 
--- The new class at this place shares prefixes with this class of the old configuration, which is counted from 1, and with no other one; and
--- both have the same patterns.
-pub record IsOldClass (old new : List (List PlainPattern)) (place was : ℕ) : Type 0 where
-  pub shares : partner (length old) (cells old new) (place + 1) ≡ Some was
-  pub alone : list_any (is_other (length old) (place + 1) was) (cells old new) ≡ false
-  pub patterns : slice_get old (was - 1) ≡ slice_get new place
+-- The new class at this place shares prefixes with this class of the old configuration, which is counted from 1, and with no other one that has
+-- nodes. Either may have more prefixes than the other.
+pub record IsOldClass (between : List Cell) (olds : List PlainCaseEvidence) (place was : ℕ) : Type 0 where
+  pub shares : partner olds between (place + 1) ≡ Some was
+  pub alone : list_any (is_other olds (place + 1) was) between ≡ false
 
 -- ---- graphs and numbers
 
@@ -48,9 +50,33 @@ pub record IsSameCase (c e : PlainCaseEvidence) : Type 0 where
 
 -- ---- what stays
 
--- A compiled case, whose class is at this place, stays as a case of the old configuration's evidence: that of its old class.
-pub record Stays (old new : List (List PlainPattern)) (olds : List PlainCaseEvidence) (place : ℕ) (c e : PlainCaseEvidence) : Type 0 where
-  pub was : ℕ
-  pub class : IsOldClass old new place was
-  pub at : slice_get olds (was - 1) ≡ Some e
-  pub same : IsSameCase c e
+-- These are the pairs of classes that share prefixes, and the evidence of the old configuration.
+module _ (between : List Cell) (olds : List PlainCaseEvidence) where
+  -- A compiled case, whose class is at this place, may stay as a case of the old evidence: that of its old class, with this number.
+  pub record MayStay (place : ℕ) (c : PlainCaseEvidence) (was : ℕ) (e : PlainCaseEvidence) : Type 0 where
+    pub class : IsOldClass between olds place was
+    pub at : slice_get olds (was - 1) ≡ Some e
+    pub same : IsSameCase c e
+
+  -- It stays as that, where no later one of these cases may.
+  pub record Stays (cs : List PlainCaseEvidence) (place : ℕ) (c e : PlainCaseEvidence) : Type 0 where
+    pub was : ℕ
+    pub may : MayStay place c was e
+    pub last : (k : ℕ) (d f : PlainCaseEvidence) → place < k → slice_get cs k ≡ Some d → ¬ MayStay k d was f
+
+  -- ---- the numbers of old classes
+
+  -- the number of the class as which a case may stay, if it may
+  abbrev pub IsNumber : ℕ → PlainCaseEvidence → Option ℕ → Type 0
+  IsNumber place c None = (was : ℕ) (e : PlainCaseEvidence) → ¬ MayStay place c was e
+  IsNumber place c (Some was) = (e : PlainCaseEvidence) × MayStay place c was e
+
+  -- those of the cases
+  pub record AreNumbers (cs : List PlainCaseEvidence) (ns : List (Option ℕ)) : Type 0 where
+    pub count : length ns ≡ length cs
+    pub each : (k : ℕ) (c : PlainCaseEvidence) (n : Option ℕ) → slice_get cs k ≡ Some c → slice_get ns k ≡ Some n → IsNumber k c n
+
+-- the number is this one
+abbrev pub is_number : ℕ → Option ℕ → Bool
+is_number was None = false
+is_number was (Some n) = n == was

@@ -14,8 +14,9 @@ pub enum ReuseFault {
     /// Raised by the greatest preference of the old configuration, which is this, a preference would pass 4,294,967,295.
     #[error("above {0} there are too few preferences")]
     PrefsRunOut(u32),
-    /// With what stays by it, nothing can take over: the evidence isn't that of the old configuration.
-    #[error("the evidence is another configuration's")]
+    /// With what stays by the evidence, nothing can take over. It is known of evidence of other configurations; that the old configuration's own
+    /// evidence never comes to this isn't proved.
+    #[error("with what stays by this evidence nothing can take over")]
     OtherEvidence,
     /// Memory was refused.
     #[error("out of memory")]

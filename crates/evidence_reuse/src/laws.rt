@@ -6,7 +6,7 @@ pub fn reused_evidence_passes()
     ensures { ReusedEvidencePasses }
 {}
 
-/// Each case that stays has the numbers and the tags of the old one.
+/// Each case that stays has the graph, the numbers and the tags of the old one.
 pub fn what_stays_is_kept()
     ensures { WhatStaysIsKept }
 {}

@@ -1,5 +1,5 @@
 //! What may take over, with what stays.
-ghost use Rattle.std.specs.Prelude.{◌≡◌, ◌<◌, ◌↔◌, ℕ, IfErr, IfOk, IsTrue, length, map};
+ghost use Rattle.std.specs.Prelude.{◌≡◌, ◌↔◌, ℕ, IfErr, IfOk, IsTrue, Some, map, slice_get};
 ghost use Rattle.policy_base.specs.Policies.{policy_of};
 ghost use Rattle.policy_base.specs.CaseNumbers.{OriginsAreRouters};
 ghost use Rattle.evidence_base.specs.Made.{PlainCaseEvidence};
@@ -8,9 +8,10 @@ ghost use Rattle.compile_core.specs.Compiling.{IsEvidenceOfMade};
 ghost use Rattle.evidence_verdicts.specs.Rules.{KeepsTag};
 ghost use Rattle.stage_classes.specs.Cells.{cells as cells_between};
 ghost use Rattle.evidence_reuse.specs.Reused.{AreForEach, AreReused, IsFault, IsReuse, IsReusedCase, IsStop, LetsTakeOver, MayTakeOver, classes_of, with_marks};
+ghost use Rattle.evidence_reuse.specs.Staying.{AreNumbers};
 
 use crate::fault::ReuseFault;
-use crate::staying::Before;
+use crate::staying::Beside;
 use config_base::Config;
 use config_maker::config_of;
 use evidence_base::{CaseEvidence, Evidence, case_copy};
@@ -52,17 +53,18 @@ fn marked(
 // A compiled case with the numbers and the tags of the old case as which it stays, or where there is none of the renewed one.
 fn reused_case(
     alloc: Global,
-    before: &Before<'_>,
+    beside: &Beside<'_>,
+    numbers: &[Option<usize>],
     place: usize,
     case: &CaseEvidence,
     renewed: &CaseEvidence,
 ) -> Result<CaseEvidence, NoMemory>
-    requires cells { before.now.cells.now ≡ cells_between before.now.old.now before.now.new.now }
-    requires within { place < length before.now.new.now }
+    requires numbers { AreNumbers beside.now.cells.now beside.now.olds.now beside.now.compiled.now numbers.now }
+    requires at { slice_get beside.now.compiled.now place ≡ Some case.now }
     requires graph { renewed.now.graph ≡ case.now.graph }
-    ensures { IfOk result (IsReusedCase before.now.old.now before.now.new.now before.now.cases.now place case.now renewed.now) }
+    ensures { IfOk result (IsReusedCase beside.now.cells.now beside.now.olds.now beside.now.compiled.now place case.now renewed.now) }
 {
-    match before.staying(place, case) {
+    match beside.staying(numbers, place, case) {
         Some(old) => marked(alloc, case, old),
         None => marked(alloc, case, renewed),
     }
@@ -71,18 +73,24 @@ fn reused_case(
 // The compiled cases, each so.
 fn reused_cases(
     alloc: Global,
-    before: &Before<'_>,
-    compiled: &[CaseEvidence],
+    beside: &Beside<'_>,
     renewed: &[CaseEvidence],
 ) -> Result<List<CaseEvidence>, NoMemory>
-    requires cells { before.now.cells.now ≡ cells_between before.now.old.now before.now.new.now }
-    requires classes { length before.now.new.now ≡ length compiled.now }
-    requires renewed { AreForEach compiled.now renewed.now }
-    ensures { IfOk result (AreReused before.now.old.now before.now.new.now before.now.cases.now compiled.now renewed.now) }
+    requires { AreForEach beside.now.compiled.now renewed.now }
+    ensures { IfOk result (AreReused beside.now.cells.now beside.now.olds.now beside.now.compiled.now renewed.now) }
 {
+    let compiled = beside.compiled;
+    let numbers = beside.numbers(alloc)?;
     let mut all = List::new(alloc);
     for place in 0..compiled.len() {
-        let case = reused_case(alloc, before, place, &compiled[place], &renewed[place])?;
+        let case = reused_case(
+            alloc,
+            beside,
+            &numbers,
+            place,
+            &compiled[place],
+            &renewed[place],
+        )?;
         all.push(case)?;
     }
     Ok(all)
@@ -145,7 +153,7 @@ fn judged_config(
 }
 
 /// What is compiled from a policy, with what stays of an old configuration and its evidence, and renewed where nothing does; and the configuration
-/// that is made of it, which may take over from the old one. Where it may not, the evidence isn't that of the old configuration.
+/// that is made of it, which may take over from the old one; or that it may not.
 pub fn reused(
     alloc: Global,
     net: &Net,
@@ -164,18 +172,12 @@ pub fn reused(
     let renewed = renewed_evidence(alloc, compiled, old)?;
     let plain = renewed_config(alloc, net, policy, &renewed)?;
     let cells = cells_of(alloc, old.classes(), plain.classes())?;
-    let before = Before {
-        old: old.classes(),
-        new: plain.classes(),
+    let beside = Beside {
         cells: cells.as_slice(),
-        cases: evidence.cases.as_slice(),
+        olds: evidence.cases.as_slice(),
+        compiled: compiled.cases.as_slice(),
     };
-    let cases = reused_cases(
-        alloc,
-        &before,
-        compiled.cases.as_slice(),
-        renewed.cases.as_slice(),
-    )?;
+    let cases = reused_cases(alloc, &beside, renewed.cases.as_slice())?;
     let config = judged_config(alloc, net, policy, cells.as_slice(), old, cases.as_slice())?;
     Ok(Reuse {
         config,

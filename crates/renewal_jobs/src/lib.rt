@@ -6,8 +6,9 @@
 //! what stays keeps its tags and its preferences (`evidence_reuse`). What the two write goes together: `check` says that it holds.
 //!
 //! The texts are judged in the order in which they are named. Then the policy may be refused, as by `compile`; and where it isn't, a preference
-//! may pass 4,294,967,295: then `refused 10 preferences-run-out` names the old one above which there are too few. Evidence of another
-//! configuration is told by `refused 11 other-evidence`, where with what would stay nothing could take over.
+//! may pass 4,294,967,295: then `refused 10 preferences-run-out` names the old one above which there are too few. Where with what would stay
+//! nothing could take over, `refused 11 other-evidence` says so. Evidence of another configuration comes to that; that the old
+//! configuration's own never does isn't proved.
 //!
 //! The old configuration may be of any network, and nothing says that it is right: its tags, its preferences and its classes alone matter, and
 //! its lines where there is evidence.

@@ -1,5 +1,5 @@
 -- Where nothing is in the way of stages, both configurations do the same with a prefix, or the new one takes over for it.
-use Rattle.std.proofs.Common.{◌≡◌, ◌⊎◌, ℕ, List, map, Some, refl, ap, inl, inr}
+use Rattle.std.proofs.Common.{◌≡◌, ◌⊎◌, ℕ, true, List, map, Some, refl, ap, inl, inr}
 use Rattle.std.specs.Prelude.{◌==◌}
 use Rattle.std.proofs.lemmas.Bool.{eq-eqb}
 use Rattle.list_law.specs.Members.{IsIn}
@@ -49,10 +49,10 @@ class_pref net config p n lawful number r u path tag q e =
     (IsIn-filter (λ (l : ClassLine). l.class == n) (all_lines config) line there (eq-eqb y.rule.class n y.class)) (0, ap Some y.prefers)
 
 module _ (net : PlainNet) (p : PlainPrefix) (old new : Part) (lawful : IsConfig old.config) (lawful' : IsConfig new.config) where
-  goes : (c : Cell) → IsNumber old.config p c.first → IsNumber new.config p c.second → AreAlike old.config.routers new.config.routers → StayOrGoOver old.config new.config c
+  goes : (c : Cell) → some_contains c.patterns p ≡ true → IsNumber old.config p c.first → IsNumber new.config p c.second → AreAlike old.config.routers new.config.routers → StayOrGoOver old.config new.config c
       → SayAlike net p old.config new.config ⊎ TakesOver net p old new
-  goes c one two alike (inl same) = inl (say_alike c.first c.second net old.config new.config alike same p lawful lawful' one two)
-  goes c one two alike (inr over) = inr (record {
+  goes c contains one two alike (inl same) = inl (say_alike c.patterns c.first c.second net old.config new.config alike same p contains lawful lawful' one two)
+  goes c contains one two alike (inr over) = inr (record {
     apart = are_apart net p old new c.first c.second lawful lawful' one two over.0;
     above = λ r u v path way t s q k taken taken'.
         over.1 q.1 k.1 (class_pref net old.config p c.first lawful one r u path t q taken) (class_pref net new.config p c.second lawful' two r v way s k taken');
@@ -71,5 +71,5 @@ prefixes_stay_or_go_over net p old new lawful lawful' free prefix =
     by alike (in_none none no_old no_new) = inl (none_alike net old new p no_old no_new)
     by alike (in_one c at one two) =
         let place = find_parts (λ (d : Cell). some_contains d.patterns p) (between old new) c at in
-        goes net p old new lawful lawful' c one two alike
+        goes net p old new lawful lawful' c place.2 one two alike
         (AllByRecursion_at (StayOrGoOver old.config new.config) (between old new) place.0 c (free_pairs_stay_or_go_over old.config new.config free) place.1)

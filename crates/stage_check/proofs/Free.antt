@@ -132,7 +132,7 @@ module _ (old new : PlainConfig) (alike : AreAlike old.routers new.routers) wher
   cell_mixes c none = by (stays (by_class old) (by_class new) c) refl none
     where
       by : (b : Bool) → stays (by_class old) (by_class new) c ≡ b → tags_of_cell (by_class old) (by_class new) c ≡ [] → MayMixIn old new c
-      by true e h = inl (say_same c.first c.second old.routers new.routers alike e)
+      by true e h = inl (say_same c.patterns c.first c.second old.routers new.routers alike e)
       by false e h = inr (no_tag_in_common c.first c.second old new (rw e at h))
 
   cells_mix : (cs : List Cell) → AllByRecursion (λ c. tags_of_cell (by_class old) (by_class new) c ≡ []) cs → AllByRecursion (MayMixIn old new) cs
@@ -144,7 +144,7 @@ module _ (old new : PlainConfig) (alike : AreAlike old.routers new.routers) wher
     where
       by : (b : Bool) → stays (by_class old) (by_class new) c ≡ b → tags_of_cell (by_class old) (by_class new) c ≡ [] → prefs_of_cell (by_class old) (by_class new) c ≡ []
           → StayOrGoOver old new c
-      by true e h l = inl (say_same c.first c.second old.routers new.routers alike e)
+      by true e h l = inl (say_same c.patterns c.first c.second old.routers new.routers alike e)
       by false e h l = inr (no_tag_in_common c.first c.second old new (rw e at h), above (by_class old c.first) (by_class new c.second) (rw e at l))
 
   cells_go_over : (cs : List Cell) → AllByRecursion (λ c. tags_of_cell (by_class old) (by_class new) c ≡ []) cs

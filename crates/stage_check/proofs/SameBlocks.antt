@@ -5,10 +5,11 @@ use Rattle.std.specs.List.{AllByRecursion}
 use Rattle.std.proofs.lemmas.Bool.{and_parts, eq-eqb, eqb-true, false≢true}
 use Rattle.std.proofs.lemmas.List.{map-append}
 use Rattle.std.proofs.lemmas.List.Elements.{filter-append}
-use Rattle.list_law.proofs.Each.{AllByRecursion-append}
+use Rattle.list_law.proofs.Each.{AllByRecursion-append, AllByRecursion-filter, AllByRecursion-map}
 use Rattle.net_base.specs.declared.numbers.Tag.{Tag}
 use Rattle.net_base.specs.Numbers.{no_tag}
-use Rattle.net_base.specs.Prefixes.{PlainPrefix, same_prefix}
+use Rattle.net_base.specs.Prefixes.{PlainPattern, PlainPrefix, same_prefix}
+use Rattle.policy_base.specs.Governing.{some_contains}
 use Rattle.config_base.specs.declared.config.RouterConfig.{RouterConfig}
 use Rattle.config_base.specs.declared.config.Session.{Session}
 use Rattle.config_base.specs.declared.config.Import.{Import}
@@ -19,7 +20,7 @@ use Rattle.config_base.proofs.SameTags.{same_tag-is}
 use Rattle.class_lines.specs.declared.class_line.ClassLine.{ClassLine}
 use Rattle.class_lines.specs.declared.class_line.Says.{Says}
 use Rattle.class_lines.specs.declared.class_line.Says.TheVariants.{Originates, Takes, Sends}
-use Rattle.class_lines.specs.ClassLines.{export_line, import_line, of_class, own_line, router_lines, routers_from, same_line, same_lines, same_says, session_lines, sessions_from}
+use Rattle.class_lines.specs.ClassLines.{export_line, import_line, is_about, lines_about, of_class, own_line, router_lines, routers_from, same_line, same_lines, same_says, session_lines, sessions_from}
 use Rattle.stage_maker.specs.Alike.{AreAlike, SameNeighbours}
 use Rattle.stage_maker.proofs.OwnLines.{same_prefix-is}
 use Rattle.stage_law.specs.Mixing.{SameAtRouter, SameInBlock, SameInBlocks, SaySame, exports_of, imports_of, own_of}
@@ -68,21 +69,22 @@ same_lines-is (x ∷ xs) (y ∷ ys) h =
     let parts = and_parts (same_line x y) (same_lines xs ys) h in
     ap₂ (λ v vs. v ∷ vs) (same_line-is x y parts.0) (same_lines-is xs ys parts.1)
 
--- ---- those of a class
+-- ---- those of a class that are about some prefixes
 
-abbrev mine : ℕ → List ClassLine → List View
-mine n ls = map view (of_class n ls)
+abbrev mine : List PlainPattern → ℕ → List ClassLine → List View
+mine ps n ls = map view (lines_about ps (of_class n ls))
 
-mine-append : (n : ℕ) (xs ys : List ClassLine) → mine n (xs ++ ys) ≡ mine n xs ++ mine n ys
-mine-append n xs ys = ap (map view) (filter-append (λ (l : ClassLine). l.class == n) xs ys) ∙ map-append view (of_class n xs) (of_class n ys)
+mine-append : (ps : List PlainPattern) (n : ℕ) (xs ys : List ClassLine) → mine ps n (xs ++ ys) ≡ mine ps n xs ++ mine ps n ys
+mine-append ps n xs ys =
+    ap (λ ls. map view (lines_about ps ls)) (filter-append (λ (l : ClassLine). l.class == n) xs ys)
+    ∙ ap (map view) (filter-append (λ (l : ClassLine). is_about ps l.says) (of_class n xs) (of_class n ys))
+    ∙ map-append view (lines_about ps (of_class n xs)) (lines_about ps (of_class n ys))
 
-mine_each : (P : View → Type 0) (n : ℕ) (ls : List ClassLine) → AllByRecursion (λ l. P (view l)) ls → AllByRecursion P (mine n ls)
-mine_each P n [] all = tt
-mine_each P n (l ∷ ls) all = by (l.class == n) refl (mine_each P n ls all.1)
-  where
-    by : (b : Bool) → (l.class == n) ≡ b → AllByRecursion P (mine n ls) → AllByRecursion P (mine n (l ∷ ls))
-    by true e later = rw e (all.0, later)
-    by false e later = rw e later
+mine_each : (P : View → Type 0) (ps : List PlainPattern) (n : ℕ) (ls : List ClassLine) → AllByRecursion (λ l. P (view l)) ls → AllByRecursion P (mine ps n ls)
+mine_each P ps n ls all =
+    AllByRecursion-map view P (lines_about ps (of_class n ls))
+    (AllByRecursion-filter (λ l. P (view l)) (λ (l : ClassLine). is_about ps l.says) (of_class n ls)
+    (AllByRecursion-filter (λ l. P (view l)) (λ (l : ClassLine). l.class == n) ls all))
 
 -- ---- where lines stand
 
@@ -146,24 +148,37 @@ export_part (Sends t) = t
 abbrev export_said : View → Tag
 export_said v = export_part v.1.1
 
-module _ {X Y : Type 0} (f : X → ClassLine) (class_of : X → ℕ) (same_class : (x : X) → (f x).class ≡ class_of x) (said : View → Y) (of : X → Y) (said_is : (x : X) → said (view (f x)) ≡ of x) (n : ℕ) where
-  back : (xs : List X) → map said (mine n (map f xs)) ≡ map of (filter (λ x. class_of x == n) xs)
+module _ {X Y : Type 0} (f : X → ClassLine) (class_of : X → ℕ) (same_class : (x : X) → (f x).class ≡ class_of x) (said : View → Y) (of : X → Y) (said_is : (x : X) → said (view (f x)) ≡ of x)
+    (ps : List PlainPattern) (keeps : X → Bool) (same_kept : (x : X) → is_about ps (f x).says ≡ keeps x) (n : ℕ) where
+  back : (xs : List X) → map said (mine ps n (map f xs)) ≡ map of (filter keeps (filter (λ x. class_of x == n) xs))
   back [] = refl
-  back (x ∷ xs) = by (class_of x == n) refl (back xs)
+  back (x ∷ xs) = by (class_of x == n) (keeps x) refl refl (back xs)
     where
-      by : (b : Bool) → (class_of x == n) ≡ b → map said (mine n (map f xs)) ≡ map of (filter (λ x. class_of x == n) xs)
-          → map said (mine n (map f (x ∷ xs))) ≡ map of (filter (λ x. class_of x == n) (x ∷ xs))
-      by true e later = rw (ap (λ c. c == n) (same_class x) ∙ e, e) (ap₂ (λ y ys. y ∷ ys) (said_is x) later)
-      by false e later = rw (ap (λ c. c == n) (same_class x) ∙ e, e) later
+      by : (b k : Bool) → (class_of x == n) ≡ b → keeps x ≡ k → map said (mine ps n (map f xs)) ≡ map of (filter keeps (filter (λ x. class_of x == n) xs))
+          → map said (mine ps n (map f (x ∷ xs))) ≡ map of (filter keeps (filter (λ x. class_of x == n) (x ∷ xs)))
+      by true true e k later = rw (ap (λ c. c == n) (same_class x) ∙ e, e, same_kept x ∙ k, k) (ap₂ (λ y ys. y ∷ ys) (said_is x) later)
+      by true false e k later = rw (ap (λ c. c == n) (same_class x) ∙ e, e, same_kept x ∙ k, k) later
+      by false k e kept later = rw (ap (λ c. c == n) (same_class x) ∙ e, e) later
 
-own_back : (r n : ℕ) (c : RouterConfig) → map own_said (mine n (map (own_line r) c.own)) ≡ own_of n c
-own_back r n c = back (own_line r) (λ (o : Origination). o.class) (λ o. refl) own_said (λ (o : Origination). (o.prefix, o.tag)) (λ o. refl) n c.own
+own_back : (ps : List PlainPattern) (r n : ℕ) (c : RouterConfig) → map own_said (mine ps n (map (own_line r) c.own)) ≡ own_of ps n c
+own_back ps r n c =
+    back (own_line r) (λ (o : Origination). o.class) (λ o. refl) own_said (λ (o : Origination). (o.prefix, o.tag)) (λ o. refl) ps
+    (λ (o : Origination). some_contains ps o.prefix) (λ o. refl) n c.own
 
-imports_back : (r k n : ℕ) (b : Session) → map import_said (mine n (map (import_line r k) b.imports)) ≡ imports_of n b
-imports_back r k n b = back (import_line r k) (λ (i : Import). i.class) (λ i. refl) import_said (λ (i : Import). (i.tag, (i.set, i.pref))) (λ i. refl) n b.imports
+-- nothing is left out
+all_kept : {X : Type 0} (xs : List X) → filter (λ x. true) xs ≡ xs
+all_kept [] = refl
+all_kept (x ∷ xs) = ap (λ ys. x ∷ ys) (all_kept xs)
 
-exports_back : (r k n : ℕ) (b : Session) → map export_said (mine n (map (export_line r k) b.exports)) ≡ exports_of n b
-exports_back r k n b = back (export_line r k) (λ (e : Export). e.class) (λ e. refl) export_said (λ (e : Export). e.tag) (λ e. refl) n b.exports
+imports_back : (ps : List PlainPattern) (r k n : ℕ) (b : Session) → map import_said (mine ps n (map (import_line r k) b.imports)) ≡ imports_of n b
+imports_back ps r k n b =
+    back (import_line r k) (λ (i : Import). i.class) (λ i. refl) import_said (λ (i : Import). (i.tag, (i.set, i.pref))) (λ i. refl) ps (λ i. true) (λ i. refl) n b.imports
+    ∙ ap (map (λ (i : Import). (i.tag, (i.set, i.pref)))) (all_kept (filter (λ (i : Import). i.class == n) b.imports))
+
+exports_back : (ps : List PlainPattern) (r k n : ℕ) (b : Session) → map export_said (mine ps n (map (export_line r k) b.exports)) ≡ exports_of n b
+exports_back ps r k n b =
+    back (export_line r k) (λ (e : Export). e.class) (λ e. refl) export_said (λ (e : Export). e.tag) (λ e. refl) ps (λ e. true) (λ e. refl) n b.exports
+    ∙ ap (map (λ (e : Export). e.tag)) (all_kept (filter (λ (e : Export). e.class == n) b.exports))
 
 -- ---- block by block
 
@@ -175,62 +190,64 @@ takes_part (Sends t) = false
 abbrev takes_it : View → Bool
 takes_it v = takes_part v.1.1
 
-module _ (m n : ℕ) where
-  block_same : (r k : ℕ) (a b : Session) → mine m (session_lines r k a) ≡ mine n (session_lines r k b) → SameInBlock m n a b
+module _ (ps : List PlainPattern) (m n : ℕ) where
+  block_same : (r k : ℕ) (a b : Session) → mine ps m (session_lines r k a) ≡ mine ps n (session_lines r k b) → SameInBlock m n a b
   block_same r k a b same =
-      let parts = split_by takes_it (mine m (map (import_line r k) a.imports)) (mine n (map (import_line r k) b.imports)) (mine m (map (export_line r k) a.exports))
-      (mine n (map (export_line r k) b.exports))
-      (mine_each (λ v. takes_it v ≡ true) m (map (import_line r k) a.imports) (mapped_each (λ l. takes_it (view l) ≡ true) (import_line r k) a.imports (λ x. refl)))
-      (mine_each (λ v. takes_it v ≡ true) n (map (import_line r k) b.imports) (mapped_each (λ l. takes_it (view l) ≡ true) (import_line r k) b.imports (λ x. refl)))
-      (mine_each (λ v. takes_it v ≡ false) m (map (export_line r k) a.exports) (mapped_each (λ l. takes_it (view l) ≡ false) (export_line r k) a.exports (λ x. refl)))
-      (mine_each (λ v. takes_it v ≡ false) n (map (export_line r k) b.exports) (mapped_each (λ l. takes_it (view l) ≡ false) (export_line r k) b.exports (λ x. refl)))
-      (sym (mine-append m (map (import_line r k) a.imports) (map (export_line r k) a.exports)) ∙ same ∙ mine-append n (map (import_line r k) b.imports) (map (export_line r k) b.exports)) in
+      let parts = split_by takes_it (mine ps m (map (import_line r k) a.imports)) (mine ps n (map (import_line r k) b.imports)) (mine ps m (map (export_line r k) a.exports))
+      (mine ps n (map (export_line r k) b.exports))
+      (mine_each (λ v. takes_it v ≡ true) ps m (map (import_line r k) a.imports) (mapped_each (λ l. takes_it (view l) ≡ true) (import_line r k) a.imports (λ x. refl)))
+      (mine_each (λ v. takes_it v ≡ true) ps n (map (import_line r k) b.imports) (mapped_each (λ l. takes_it (view l) ≡ true) (import_line r k) b.imports (λ x. refl)))
+      (mine_each (λ v. takes_it v ≡ false) ps m (map (export_line r k) a.exports) (mapped_each (λ l. takes_it (view l) ≡ false) (export_line r k) a.exports (λ x. refl)))
+      (mine_each (λ v. takes_it v ≡ false) ps n (map (export_line r k) b.exports) (mapped_each (λ l. takes_it (view l) ≡ false) (export_line r k) b.exports (λ x. refl)))
+      (sym (mine-append ps m (map (import_line r k) a.imports) (map (export_line r k) a.exports)) ∙ same ∙ mine-append ps n (map (import_line r k) b.imports) (map (export_line r k) b.exports)) in
       record {
-        imports = sym (imports_back r k m a) ∙ ap (map import_said) parts.0 ∙ imports_back r k n b;
-        exports = sym (exports_back r k m a) ∙ ap (map export_said) parts.1 ∙ exports_back r k n b;
+        imports = sym (imports_back ps r k m a) ∙ ap (map import_said) parts.0 ∙ imports_back ps r k n b;
+        exports = sym (exports_back ps r k m a) ∙ ap (map export_said) parts.1 ∙ exports_back ps r k n b;
       }
 
-  sessions_same : (r k : ℕ) (xs ys : List Session) → SameNeighbours xs ys → mine m (sessions_from r k xs) ≡ mine n (sessions_from r k ys) → SameInBlocks m n xs ys
+  sessions_same : (r k : ℕ) (xs ys : List Session) → SameNeighbours xs ys → mine ps m (sessions_from r k xs) ≡ mine ps n (sessions_from r k ys) → SameInBlocks m n xs ys
   sessions_same r k [] [] alike same = tt
   sessions_same r k [] (y ∷ ys) alike same = absurd alike
   sessions_same r k (x ∷ xs) [] alike same = absurd alike
   sessions_same r k (x ∷ xs) (y ∷ ys) alike same =
       let here : View → Bool = λ v. v.1.0 == k in
-      let parts = split_by here (mine m (session_lines r k x)) (mine n (session_lines r k y)) (mine m (sessions_from r (k + 1) xs)) (mine n (sessions_from r (k + 1) ys))
-      (mine_each (λ v. here v ≡ true) m (session_lines r k x) (block_each (λ l. here (view l) ≡ true) r k x (λ l at is. eq-eqb l.neighbour k is)))
-      (mine_each (λ v. here v ≡ true) n (session_lines r k y) (block_each (λ l. here (view l) ≡ true) r k y (λ l at is. eq-eqb l.neighbour k is)))
-      (mine_each (λ v. here v ≡ false) m (sessions_from r (k + 1) xs) (sessions_each (λ l. here (view l) ≡ false) r (k + 1) xs (λ l at after. other l.neighbour k after)))
-      (mine_each (λ v. here v ≡ false) n (sessions_from r (k + 1) ys) (sessions_each (λ l. here (view l) ≡ false) r (k + 1) ys (λ l at after. other l.neighbour k after)))
-      (sym (mine-append m (session_lines r k x) (sessions_from r (k + 1) xs)) ∙ same ∙ mine-append n (session_lines r k y) (sessions_from r (k + 1) ys)) in
+      let parts = split_by here (mine ps m (session_lines r k x)) (mine ps n (session_lines r k y)) (mine ps m (sessions_from r (k + 1) xs)) (mine ps n (sessions_from r (k + 1) ys))
+      (mine_each (λ v. here v ≡ true) ps m (session_lines r k x) (block_each (λ l. here (view l) ≡ true) r k x (λ l at is. eq-eqb l.neighbour k is)))
+      (mine_each (λ v. here v ≡ true) ps n (session_lines r k y) (block_each (λ l. here (view l) ≡ true) r k y (λ l at is. eq-eqb l.neighbour k is)))
+      (mine_each (λ v. here v ≡ false) ps m (sessions_from r (k + 1) xs) (sessions_each (λ l. here (view l) ≡ false) r (k + 1) xs (λ l at after. other l.neighbour k after)))
+      (mine_each (λ v. here v ≡ false) ps n (sessions_from r (k + 1) ys) (sessions_each (λ l. here (view l) ≡ false) r (k + 1) ys (λ l at after. other l.neighbour k after)))
+      (sym (mine-append ps m (session_lines r k x) (sessions_from r (k + 1) xs)) ∙ same ∙ mine-append ps n (session_lines r k y) (sessions_from r (k + 1) ys)) in
       (block_same r k x y parts.0, sessions_same r (k + 1) xs ys alike.1 parts.1)
 
-  router_same : (r : ℕ) (a b : RouterConfig) → SameNeighbours a.sessions b.sessions → mine m (router_lines r a) ≡ mine n (router_lines r b) → SameAtRouter m n a b
+  router_same : (r : ℕ) (a b : RouterConfig) → SameNeighbours a.sessions b.sessions → mine ps m (router_lines r a) ≡ mine ps n (router_lines r b) → SameAtRouter ps m n a b
   router_same r a b alike same =
       let here : View → Bool = λ v. v.1.0 == 0 in
-      let parts = split_by here (mine m (map (own_line r) a.own)) (mine n (map (own_line r) b.own)) (mine m (sessions_from r 1 a.sessions)) (mine n (sessions_from r 1 b.sessions))
-      (mine_each (λ v. here v ≡ true) m (map (own_line r) a.own) (mapped_each (λ l. here (view l) ≡ true) (own_line r) a.own (λ x. refl)))
-      (mine_each (λ v. here v ≡ true) n (map (own_line r) b.own) (mapped_each (λ l. here (view l) ≡ true) (own_line r) b.own (λ x. refl)))
-      (mine_each (λ v. here v ≡ false) m (sessions_from r 1 a.sessions) (sessions_each (λ l. here (view l) ≡ false) r 1 a.sessions (λ l at after. other l.neighbour 0 after)))
-      (mine_each (λ v. here v ≡ false) n (sessions_from r 1 b.sessions) (sessions_each (λ l. here (view l) ≡ false) r 1 b.sessions (λ l at after. other l.neighbour 0 after)))
-      (sym (mine-append m (map (own_line r) a.own) (sessions_from r 1 a.sessions)) ∙ same ∙ mine-append n (map (own_line r) b.own) (sessions_from r 1 b.sessions)) in
+      let parts = split_by here (mine ps m (map (own_line r) a.own)) (mine ps n (map (own_line r) b.own)) (mine ps m (sessions_from r 1 a.sessions)) (mine ps n (sessions_from r 1 b.sessions))
+      (mine_each (λ v. here v ≡ true) ps m (map (own_line r) a.own) (mapped_each (λ l. here (view l) ≡ true) (own_line r) a.own (λ x. refl)))
+      (mine_each (λ v. here v ≡ true) ps n (map (own_line r) b.own) (mapped_each (λ l. here (view l) ≡ true) (own_line r) b.own (λ x. refl)))
+      (mine_each (λ v. here v ≡ false) ps m (sessions_from r 1 a.sessions) (sessions_each (λ l. here (view l) ≡ false) r 1 a.sessions (λ l at after. other l.neighbour 0 after)))
+      (mine_each (λ v. here v ≡ false) ps n (sessions_from r 1 b.sessions) (sessions_each (λ l. here (view l) ≡ false) r 1 b.sessions (λ l at after. other l.neighbour 0 after)))
+      (sym (mine-append ps m (map (own_line r) a.own) (sessions_from r 1 a.sessions)) ∙ same ∙ mine-append ps n (map (own_line r) b.own) (sessions_from r 1 b.sessions)) in
       record {
-        own = sym (own_back r m a) ∙ ap (map own_said) parts.0 ∙ own_back r n b;
+        own = sym (own_back ps r m a) ∙ ap (map own_said) parts.0 ∙ own_back ps r n b;
         sessions = sessions_same r 1 a.sessions b.sessions alike parts.1;
       }
 
-  routers_same : (r : ℕ) (xs ys : List RouterConfig) → AreAlike xs ys → mine m (routers_from r xs) ≡ mine n (routers_from r ys) → SaySame m n xs ys
+  routers_same : (r : ℕ) (xs ys : List RouterConfig) → AreAlike xs ys → mine ps m (routers_from r xs) ≡ mine ps n (routers_from r ys) → SaySame ps m n xs ys
   routers_same r [] [] alike same = tt
   routers_same r [] (y ∷ ys) alike same = absurd alike
   routers_same r (x ∷ xs) [] alike same = absurd alike
   routers_same r (x ∷ xs) (y ∷ ys) alike same =
       let here : View → Bool = λ v. v.0 == r in
-      let parts = split_by here (mine m (router_lines r x)) (mine n (router_lines r y)) (mine m (routers_from (r + 1) xs)) (mine n (routers_from (r + 1) ys))
-      (mine_each (λ v. here v ≡ true) m (router_lines r x) (router_each (λ l. here (view l) ≡ true) r x (λ l at. eq-eqb l.router r at)))
-      (mine_each (λ v. here v ≡ true) n (router_lines r y) (router_each (λ l. here (view l) ≡ true) r y (λ l at. eq-eqb l.router r at)))
-      (mine_each (λ v. here v ≡ false) m (routers_from (r + 1) xs) (routers_each (λ l. here (view l) ≡ false) (r + 1) xs (λ l after. other l.router r after)))
-      (mine_each (λ v. here v ≡ false) n (routers_from (r + 1) ys) (routers_each (λ l. here (view l) ≡ false) (r + 1) ys (λ l after. other l.router r after)))
-      (sym (mine-append m (router_lines r x) (routers_from (r + 1) xs)) ∙ same ∙ mine-append n (router_lines r y) (routers_from (r + 1) ys)) in
+      let parts = split_by here (mine ps m (router_lines r x)) (mine ps n (router_lines r y)) (mine ps m (routers_from (r + 1) xs)) (mine ps n (routers_from (r + 1) ys))
+      (mine_each (λ v. here v ≡ true) ps m (router_lines r x) (router_each (λ l. here (view l) ≡ true) r x (λ l at. eq-eqb l.router r at)))
+      (mine_each (λ v. here v ≡ true) ps n (router_lines r y) (router_each (λ l. here (view l) ≡ true) r y (λ l at. eq-eqb l.router r at)))
+      (mine_each (λ v. here v ≡ false) ps m (routers_from (r + 1) xs) (routers_each (λ l. here (view l) ≡ false) (r + 1) xs (λ l after. other l.router r after)))
+      (mine_each (λ v. here v ≡ false) ps n (routers_from (r + 1) ys) (routers_each (λ l. here (view l) ≡ false) (r + 1) ys (λ l after. other l.router r after)))
+      (sym (mine-append ps m (router_lines r x) (routers_from (r + 1) xs)) ∙ same ∙ mine-append ps n (router_lines r y) (routers_from (r + 1) ys)) in
       (router_same r x y alike.0.sessions parts.0, routers_same (r + 1) xs ys alike.1 parts.1)
 
-pub say_same : (m n : ℕ) (xs ys : List RouterConfig) → AreAlike xs ys → same_lines (of_class m (routers_from 0 xs)) (of_class n (routers_from 0 ys)) ≡ true → SaySame m n xs ys
-say_same m n xs ys alike same = routers_same m n 0 xs ys alike (same_lines-is (of_class m (routers_from 0 xs)) (of_class n (routers_from 0 ys)) same)
+pub say_same : (ps : List PlainPattern) (m n : ℕ) (xs ys : List RouterConfig) → AreAlike xs ys
+    → same_lines (lines_about ps (of_class m (routers_from 0 xs))) (lines_about ps (of_class n (routers_from 0 ys))) ≡ true → SaySame ps m n xs ys
+say_same ps m n xs ys alike same =
+    routers_same ps m n 0 xs ys alike (same_lines-is (lines_about ps (of_class m (routers_from 0 xs))) (lines_about ps (of_class n (routers_from 0 ys))) same)

@@ -32,10 +32,11 @@ AreRollouts old new = (net : PlainNet) (before after : PlainPolicy) (p : PlainPr
 abbrev pub AreOver : ℕ → ℕ → PlainConfig → PlainConfig → Type 0
 AreOver m n old new = (i j : ℕ) → IsIn (prefs_in (by_class old m)) i → IsIn (prefs_in (by_class new n)) j → i < j
 
--- The classes of a cell have the same lines in every block, or no tag in common, and the preferences of the new one are above.
+-- The classes of a cell have the same lines in every block, as far as they are about its prefixes; or no tag in common, and the preferences
+-- of the new one are above.
 abbrev pub StayOrGoOver : PlainConfig → PlainConfig → Cell → Type 0
 StayOrGoOver old new c =
-    SaySame c.first c.second old.routers new.routers ⊎ (HaveNoTagInCommon c.first c.second old new × AreOver c.first c.second old new)
+    SaySame c.patterns c.first c.second old.routers new.routers ⊎ (HaveNoTagInCommon c.first c.second old new × AreOver c.first c.second old new)
 
 -- Where nothing is in the way each cell is so.
 abbrev pub FreePairsStayOrGoOver : Type 0

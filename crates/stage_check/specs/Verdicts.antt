@@ -4,7 +4,7 @@ use Rattle.std.specs.List.{flat_map}
 use Rattle.net_base.specs.declared.numbers.Tag.{Tag}
 use Rattle.config_base.specs.Configs.{PlainConfig}
 use Rattle.class_lines.specs.declared.class_line.ClassLine.{ClassLine}
-use Rattle.class_lines.specs.ClassLines.{same_lines}
+use Rattle.class_lines.specs.ClassLines.{lines_about, same_lines}
 use Rattle.class_lines.specs.Marks.{least_of_prefs, least_of_tags, low_prefs, shared_tags}
 use Rattle.class_lines.specs.Tables.{by_class}
 use Rattle.stage_classes.specs.declared.cell.Cell.{Cell}
@@ -25,9 +25,9 @@ of_pref (Some n) = LowPref n
 
 -- Of a pair of classes, where these are the lines of each class of the old configuration and of the new one:
 module _ (old new : ℕ → List ClassLine) where
-  -- both have the same lines in every block
+  -- both have the same lines in every block, as far as they are about the prefixes that both share
   abbrev pub stays : Cell → Bool
-  stays c = same_lines (old c.first) (new c.second)
+  stays c = same_lines (lines_about c.patterns (old c.first)) (lines_about c.patterns (new c.second))
 
   -- how many lines a stage has of the pair at most, with that of the class itself: of both classes, or where both have the same, once
   abbrev pub lines_of_cell : Cell → ℕ

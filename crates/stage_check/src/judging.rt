@@ -17,12 +17,14 @@ ghost use Rattle.stage_check.specs.Verdicts.{
 };
 
 use crate::unlike::first_unlike;
-use class_lines::{ClassTable, are_same, least_pref, least_tag, push_low_prefs, push_shared_tags};
+use class_lines::{
+    ClassTable, are_same, least_pref, least_tag, lines_about, push_low_prefs, push_shared_tags,
+};
 use config_base::Config;
 use input_output::NoMemory;
 use net_base::Tag;
 use stage_classes::Cell;
-use std::alloc::Global;
+use std::alloc::{AllocError, Global};
 
 /// A stage may have this many lines of its classes and about them, where what two classes have in common is counted once.
 pub const MAX_LINES: u64 = 1_000_000;
@@ -36,7 +38,7 @@ pub enum Verdict {
     Unlike(usize),
     /// A stage would have so many lines; 18446744073709551615 stands for more, too.
     TooManyLines(u64),
-    /// This tag stands in lines of two classes that share prefixes and don't have the same lines. It's the least one.
+    /// This tag stands in lines of two classes that share prefixes and don't have the same lines about these. It's the least one.
     SharedTag(Tag),
     /// This preference of the new configuration isn't above each of the old one in such classes. It's the least one.
     LowPref(u32),
@@ -49,38 +51,38 @@ struct Tables {
     new: ClassTable,
 }
 
-// Whether the classes of a cell have the same lines.
-fn stays(tables: &Tables, cell: &Cell) -> bool
-    ensures { result ≡ does_stay (class_in tables.now.old) (class_in tables.now.new) cell.now }
+// Whether the classes of a cell have the same lines, as far as they are about the prefixes of the cell.
+fn stays(alloc: Global, tables: &Tables, cell: &Cell) -> Result<bool, AllocError>
+    ensures { IfOk result (λ b. b ≡ does_stay (class_in tables.now.old) (class_in tables.now.new) cell.now) }
 {
-    are_same(
-        tables.old.of_class(cell.first),
-        tables.new.of_class(cell.second),
-    )
+    let patterns = cell.patterns.as_slice();
+    let old = lines_about(alloc, patterns, tables.old.of_class(cell.first))?;
+    let new = lines_about(alloc, patterns, tables.new.of_class(cell.second))?;
+    Ok(are_same(&old, &new))
 }
 
 // How many lines a stage has of a cell at most, at most 18446744073709551615.
-fn cell_lines(tables: &Tables, cell: &Cell) -> u64
-    ensures { result ≡ min (lines_of_cell (class_in tables.now.old) (class_in tables.now.new) cell.now) top }
+fn cell_lines(alloc: Global, tables: &Tables, cell: &Cell) -> Result<u64, AllocError>
+    ensures { IfOk result (λ n. n ≡ min (lines_of_cell (class_in tables.now.old) (class_in tables.now.new) cell.now) top) }
 {
     let old = tables.old.of_class(cell.first).len() as u64;
     let new = tables.new.of_class(cell.second).len() as u64;
-    if stays(tables, cell) {
-        old.saturating_add(1)
+    if stays(alloc, tables, cell)? {
+        Ok(old.saturating_add(1))
     } else {
-        old.saturating_add(new).saturating_add(1)
+        Ok(old.saturating_add(new).saturating_add(1))
     }
 }
 
 // How many lines a stage has of all cells at most, at most 18446744073709551615.
-fn count_lines(tables: &Tables, cells: &[Cell]) -> u64
-    ensures { result ≡ min (sum_by (lines_of_cell (class_in tables.now.old) (class_in tables.now.new)) cells.now) top }
+fn count_lines(alloc: Global, tables: &Tables, cells: &[Cell]) -> Result<u64, AllocError>
+    ensures { IfOk result (λ n. n ≡ min (sum_by (lines_of_cell (class_in tables.now.old) (class_in tables.now.new)) cells.now) top) }
 {
     let mut total = 0u64;
     for cell in cells {
-        total = total.saturating_add(cell_lines(tables, cell));
+        total = total.saturating_add(cell_lines(alloc, tables, cell)?);
     }
-    total
+    Ok(total)
 }
 
 // Puts the tags that stand in both classes of a cell behind the others, where these don't have the same lines.
@@ -92,7 +94,7 @@ fn push_tags(
 ) -> Result<(), NoMemory>
     ensures { OnOk result (tags.new.items ≡ tags.old.items ++ tags_of_cell (class_in tables.now.old) (class_in tables.now.new) cell.now) }
 {
-    if stays(tables, cell) {
+    if stays(alloc, tables, cell)? {
         return Ok(());
     }
     push_shared_tags(
@@ -115,10 +117,15 @@ fn tags_in_the_way(alloc: Global, tables: &Tables, cells: &[Cell]) -> Result<Vec
 }
 
 // Puts the preferences of a cell that are too low behind the others, where its classes don't have the same lines.
-fn push_prefs(prefs: &mut Vec<u32>, tables: &Tables, cell: &Cell) -> Result<(), NoMemory>
+fn push_prefs(
+    alloc: Global,
+    prefs: &mut Vec<u32>,
+    tables: &Tables,
+    cell: &Cell,
+) -> Result<(), NoMemory>
     ensures { OnOk result (prefs.new.items ≡ prefs.old.items ++ prefs_of_cell (class_in tables.now.old) (class_in tables.now.new) cell.now) }
 {
-    if stays(tables, cell) {
+    if stays(alloc, tables, cell)? {
         return Ok(());
     }
     push_low_prefs(
@@ -134,7 +141,7 @@ fn prefs_in_the_way(alloc: Global, tables: &Tables, cells: &[Cell]) -> Result<Ve
 {
     let mut prefs = Vec::new(alloc);
     for cell in cells {
-        push_prefs(&mut prefs, tables, cell)?;
+        push_prefs(alloc, &mut prefs, tables, cell)?;
     }
     Ok(prefs)
 }
@@ -165,7 +172,7 @@ fn tag_verdict(alloc: Global, tables: &Tables, cells: &[Cell]) -> Result<Verdict
 fn cells_verdict(alloc: Global, tables: &Tables, cells: &[Cell]) -> Result<Verdict, NoMemory>
     ensures { IfOk result (λ v. v ≡ of_cells (class_in tables.now.old) (class_in tables.now.new) cells.now) }
 {
-    let count = count_lines(tables, cells);
+    let count = count_lines(alloc, tables, cells)?;
     if count > MAX_LINES {
         return Ok(Verdict::TooManyLines(count));
     }

@@ -2,8 +2,9 @@
 //! where nothing is.
 //!
 //! Stages are made of two configurations of the same routers with the same neighbours, where for each pair of a class of the one and a
-//! class of the other that share a prefix either both have the same lines in every block, or no tag stands in both, and the preferences of
-//! the new lines are above those of the old ones. So nothing is asked of a class that stays as it is.
+//! class of the other that share a prefix either both have the same lines in every block, as far as these are about the prefixes that they
+//! share, or no tag stands in both, and the preferences of the new lines are above those of the old ones. So nothing is asked of a class that
+//! stays as it is, though it have more prefixes than before, or fewer: an `originate` line is about its prefix alone.
 //!
 //! - `specs/Unlike`: the first router that isn't the same in both (`first_unlike`).
 //! - `specs/Verdicts`: how many lines a stage may have, which tags and preferences are in the way, and what is answered (`verdict`).

@@ -1,5 +1,5 @@
 -- Where the classes of each cell may be mixed, so may the configurations.
-use Rattle.std.proofs.Common.{◌≡◌, None, refl, sym, ◌∙◌, inl, inr}
+use Rattle.std.proofs.Common.{◌≡◌, true, None, refl, sym, ◌∙◌, inl, inr}
 use Rattle.list_law.proofs.Each.{AllByRecursion_at}
 use Rattle.list_law.proofs.Tests.{find_parts}
 use Rattle.policy_base.specs.Governing.{some_contains}
@@ -27,15 +27,15 @@ pub cells_may_mix : CellsMayMix
 cells_may_mix net cells x y p lawful lawful' alike pairs each prefix =
     by (in_cell_of cells x.config y.config p (cell_of cells p) (class_of x.config p) (class_of y.config p) refl refl refl (pairs p prefix))
   where
-    mixed : (c : Cell) → IsNumber x.config p c.first → IsNumber y.config p c.second → MayMixIn x.config y.config c → MayMix net p x y
-    mixed c one two (inl same) = inr (say_alike c.first c.second net x.config y.config alike same p lawful lawful' one two)
-    mixed c one two (inr none) = inl (are_apart net p x y c.first c.second lawful lawful' one two none)
+    mixed : (c : Cell) → some_contains c.patterns p ≡ true → IsNumber x.config p c.first → IsNumber y.config p c.second → MayMixIn x.config y.config c → MayMix net p x y
+    mixed c contains one two (inl same) = inr (say_alike c.patterns c.first c.second net x.config y.config alike same p contains lawful lawful' one two)
+    mixed c contains one two (inr none) = inl (are_apart net p x y c.first c.second lawful lawful' one two none)
 
     by : InCell cells x.config y.config p → MayMix net p x y
     by (in_none none no_x no_y) = inr (none_alike net x y p no_x no_y)
     by (in_one c at one two) =
         let place = find_parts (λ (d : Cell). some_contains d.patterns p) cells c at in
-        mixed c one two (AllByRecursion_at (MayMixIn x.config y.config) cells place.0 c each place.1)
+        mixed c place.2 one two (AllByRecursion_at (MayMixIn x.config y.config) cells place.0 c each place.1)
 
 pub stages_make_a_rollout : StagesMakeARollout
 stages_make_a_rollout net cells turned x y p may back each prefix = record {

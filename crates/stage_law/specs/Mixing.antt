@@ -5,7 +5,8 @@ use Rattle.list_law.specs.Members.{IsIn}
 use Rattle.net_base.specs.declared.numbers.Tag.{Tag}
 use Rattle.net_base.specs.Network.{PlainNet}
 use Rattle.net_base.specs.Numbers.{is_tag}
-use Rattle.net_base.specs.Prefixes.{PlainPrefix, IsPrefix}
+use Rattle.net_base.specs.Prefixes.{PlainPattern, PlainPrefix, IsPrefix}
+use Rattle.policy_base.specs.Governing.{some_contains}
 use Rattle.config_base.specs.declared.config.RouterConfig.{RouterConfig}
 use Rattle.config_base.specs.declared.config.Session.{Session}
 use Rattle.config_base.specs.declared.config.Import.{Import}
@@ -28,8 +29,10 @@ imports_of n b = map (λ (r : Import). (r.tag, (r.set, r.pref))) (filter (λ (r 
 abbrev pub exports_of : ℕ → Session → List Tag
 exports_of n b = map (λ (e : Export). e.tag) (filter (λ (e : Export). e.class == n) b.exports)
 
-abbrev pub own_of : ℕ → RouterConfig → List (PlainPrefix × Tag)
-own_of n c = map (λ (o : Origination). (o.prefix, o.tag)) (filter (λ (o : Origination). o.class == n) c.own)
+-- of `originate` lines those about prefixes of these patterns
+abbrev pub own_of : List PlainPattern → ℕ → RouterConfig → List (PlainPrefix × Tag)
+own_of patterns n c =
+    map (λ (o : Origination). (o.prefix, o.tag)) (filter (λ (o : Origination). some_contains patterns o.prefix) (filter (λ (o : Origination). o.class == n) c.own))
 
 -- block by block
 pub record SameInBlock (m n : ℕ) (a b : Session) : Type 0 where
@@ -41,15 +44,15 @@ SameInBlocks m n [] [] = Unit {0}
 SameInBlocks m n (a ∷ xs) (b ∷ ys) = SameInBlock m n a b × SameInBlocks m n xs ys
 SameInBlocks m n _ _ = ⊥
 
-pub record SameAtRouter (m n : ℕ) (a b : RouterConfig) : Type 0 where
-  pub own : own_of m a ≡ own_of n b
+pub record SameAtRouter (patterns : List PlainPattern) (m n : ℕ) (a b : RouterConfig) : Type 0 where
+  pub own : own_of patterns m a ≡ own_of patterns n b
   pub sessions : SameInBlocks m n a.sessions b.sessions
 
--- Every block has the same lines of the class m of the one and of the class n of the other.
-abbrev pub SaySame : ℕ → ℕ → List RouterConfig → List RouterConfig → Type 0
-SaySame m n [] [] = Unit {0}
-SaySame m n (a ∷ xs) (b ∷ ys) = SameAtRouter m n a b × SaySame m n xs ys
-SaySame m n _ _ = ⊥
+-- Every block has the same lines of the class m of the one and of the class n of the other, as far as they are about prefixes of these patterns.
+abbrev pub SaySame : List PlainPattern → ℕ → ℕ → List RouterConfig → List RouterConfig → Type 0
+SaySame patterns m n [] [] = Unit {0}
+SaySame patterns m n (a ∷ xs) (b ∷ ys) = SameAtRouter patterns m n a b × SaySame patterns m n xs ys
+SaySame patterns m n _ _ = ⊥
 
 -- ---- no tag in common
 
@@ -73,7 +76,7 @@ HaveNoTagInCommon m n old new = (t : Tag) → IsTrue (is_tag t) → StandsIn m o
 -- ---- both
 
 abbrev pub MayMixIn : PlainConfig → PlainConfig → Cell → Type 0
-MayMixIn old new c = SaySame c.first c.second old.routers new.routers ⊎ HaveNoTagInCommon c.first c.second old new
+MayMixIn old new c = SaySame c.patterns c.first c.second old.routers new.routers ⊎ HaveNoTagInCommon c.first c.second old new
 
 abbrev pub CellsMayMix : Type 0
 CellsMayMix = (net : PlainNet) (cells : List Cell) (x y : Part) (p : PlainPrefix) → IsConfig x.config → IsConfig y.config → AreAlike x.config.routers y.config.routers

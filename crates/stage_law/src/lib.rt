@@ -5,8 +5,8 @@
 //! tags of the two are apart (`MayMix` of `rollout_base`). Here that follows from what can be seen in the lines of two classes that
 //! share prefixes, a cell (`MayMixIn` of `specs/Mixing`):
 //!
-//! - every block has the same lines of both classes, but for the number of the class (`SaySame`). So what stays, stays: nothing is asked
-//!   of the tags of a class that doesn't change;
+//! - every block has the same lines of both classes, but for the number of the class, as far as they are about the prefixes of the cell
+//!   (`SaySame`). So what stays, stays: nothing is asked of the tags of a class that doesn't change, whichever other prefixes it has;
 //! - or no tag stands in a line of the one class and in one of the other (`HaveNoTagInCommon`).
 //!
 //! Tags of classes that share no prefix may meet.

@@ -36,6 +36,37 @@ import 1 set 64512:0:3 pref 3
 end
 """
 
+# Two prefixes at the first router, and one at each.
+BOTH_AT_A = "originate 10.0.1.0/24 at A; originate 10.0.2.0/24 at A; true => any;"
+ONE_AT_EACH = "originate 10.0.1.0/24 at A; originate 10.0.2.0/24 at B; true => any;"
+
+BOTH_AT_A_CONFIG = (TWO_ROUTERS_CONFIG.replace("class 1 10.0.1.0/24", "class 1 10.0.1.0/24, 10.0.2.0/24")
+                    .replace("originate 1 10.0.1.0/24 tag 64512:0:1\n", "originate 1 10.0.1.0/24 tag 64512:0:1\noriginate 1 10.0.2.0/24 tag 64512:0:1\n"))
+BOTH_AT_A_EVIDENCE = TWO_ROUTERS_EVIDENCE.replace('"10.0.1.0/24"', '"10.0.1.0/24","10.0.2.0/24"')
+
+ONE_AT_EACH_CONFIG = """\
+propane-config 2
+class 1 10.0.1.0/24
+class 2 10.0.2.0/24
+router A asn 64512 id 10.255.0.1
+originate 1 10.0.1.0/24 tag 64512:0:1
+session B asn 64513
+import 2 tag 64513:0:3 set 64512:0:3 pref 200
+export 1 tag 64512:0:1
+end
+router B asn 64513 id 10.255.0.2
+originate 2 10.0.2.0/24 tag 64513:0:3
+session A asn 64512
+import 1 tag 64512:0:1 set 64513:0:1 pref 100
+export 2 tag 64513:0:3
+end
+"""
+
+ONE_AT_EACH_EVIDENCE = ('{"cases":[{"external":false,"nodes":[[0,0,0,100,64512,1],[1,0,1,100,64513,1]],"origins":[0],'
+                        '"prefixes":["10.0.1.0/24"],"starts":[0],"statement":1,"steps":[[0,1]]},'
+                        '{"external":false,"nodes":[[1,0,0,200,64513,3],[0,0,1,200,64512,3]],"origins":[1],'
+                        '"prefixes":["10.0.2.0/24"],"starts":[0],"statement":1,"steps":[[0,1]]}],"version":1}\n')
+
 
 def topped(pref: int) -> str:
     """The configuration of two routers, with this preference."""
@@ -102,26 +133,46 @@ end
     ("also where its preferences are above those of compile by as much", ["renew"],
      [TWO_ROUTERS, ANY_PATH, RENEWED_CONFIG, RENEWED_EVIDENCE], DONE, RENEWED_CONFIG),
     ("what stays doesn't come above what it was", ["renewal"], [TWO_ROUTERS, ANY_PATH, RENEWED_CONFIG, RENEWED_EVIDENCE], DONE, RENEWED_EVIDENCE),
-    ("a class with one more prefix doesn't stay", ["renew"],
-     [TWO_ROUTERS, "originate 10.0.1.0/24 at A; originate 10.0.2.0/24 at A; true => any;", TWO_ROUTERS_CONFIG, TWO_ROUTERS_EVIDENCE], DONE,
-     RENEWED_CONFIG.replace("class 1 10.0.1.0/24", "class 1 10.0.1.0/24, 10.0.2.0/24")
-     .replace("originate 1 10.0.1.0/24 tag 64512:0:2\n", "originate 1 10.0.1.0/24 tag 64512:0:2\noriginate 1 10.0.2.0/24 tag 64512:0:2\n")),
-    ("a class beside it does", ["renew"],
-     [TWO_ROUTERS, "originate 10.0.1.0/24 at A; originate 10.0.2.0/24 at B; true => any;", TWO_ROUTERS_CONFIG, TWO_ROUTERS_EVIDENCE], DONE, """\
+    ("a class with one more prefix stays", ["renew"], [TWO_ROUTERS, BOTH_AT_A, TWO_ROUTERS_CONFIG, TWO_ROUTERS_EVIDENCE], DONE, BOTH_AT_A_CONFIG),
+    ("and its evidence, but for the prefix", ["renewal"], [TWO_ROUTERS, BOTH_AT_A, TWO_ROUTERS_CONFIG, TWO_ROUTERS_EVIDENCE], DONE, BOTH_AT_A_EVIDENCE),
+    ("stages lead there", ["between", "2"], [TWO_ROUTERS_CONFIG, BOTH_AT_A_CONFIG], DONE, """\
 propane-config 2
 class 1 10.0.1.0/24
 class 2 10.0.2.0/24
 router A asn 64512 id 10.255.0.1
 originate 1 10.0.1.0/24 tag 64512:0:1
+originate 2 10.0.2.0/24 tag 64512:0:1
 session B asn 64513
-import 2 tag 64513:0:3 set 64512:0:3 pref 200
 export 1 tag 64512:0:1
+export 2 tag 64512:0:1
 end
 router B asn 64513 id 10.255.0.2
-originate 2 10.0.2.0/24 tag 64513:0:3
 session A asn 64512
 import 1 tag 64512:0:1 set 64513:0:1 pref 100
-export 2 tag 64513:0:3
+import 2 tag 64512:0:1 set 64513:0:1 pref 100
+end
+"""),
+    ("so does one with a prefix less", ["renew"], [TWO_ROUTERS, ANY_PATH, BOTH_AT_A_CONFIG, BOTH_AT_A_EVIDENCE], DONE, TWO_ROUTERS_CONFIG),
+    ("of two statements for what was one, the last one stays", ["renewal"],
+     [TWO_ROUTERS, f"{BOTH_AT_A.removesuffix(' true => any;')} 10.0.1.0/24 => any; true => any;", BOTH_AT_A_CONFIG, BOTH_AT_A_EVIDENCE], DONE,
+     '{"cases":[{"external":false,"nodes":[[0,0,0,200,64512,2],[1,0,1,200,64513,2]],"origins":[0],"prefixes":["10.0.1.0/24"],"starts":[0],'
+     '"statement":1,"steps":[[0,1]]},{"external":false,"nodes":[[0,0,0,100,64512,1],[1,0,1,100,64513,1]],"origins":[0],'
+     '"prefixes":["10.0.2.0/24"],"starts":[0],"statement":2,"steps":[[0,1]]}],"version":1}\n'),
+    ("a class beside what stays is renewed", ["renew"], [TWO_ROUTERS, ONE_AT_EACH, TWO_ROUTERS_CONFIG, TWO_ROUTERS_EVIDENCE], DONE, ONE_AT_EACH_CONFIG),
+    ("and its evidence, beside that of what stays", ["renewal"], [TWO_ROUTERS, ONE_AT_EACH, TWO_ROUTERS_CONFIG, TWO_ROUTERS_EVIDENCE], DONE,
+     ONE_AT_EACH_EVIDENCE),
+    ("a class that gets a prefix of another one doesn't stay", ["renew"], [TWO_ROUTERS, BOTH_AT_A, ONE_AT_EACH_CONFIG, ONE_AT_EACH_EVIDENCE], DONE, """\
+propane-config 2
+class 1 10.0.1.0/24, 10.0.2.0/24
+router A asn 64512 id 10.255.0.1
+originate 1 10.0.1.0/24 tag 64512:0:2
+originate 1 10.0.2.0/24 tag 64512:0:2
+session B asn 64513
+export 1 tag 64512:0:2
+end
+router B asn 64513 id 10.255.0.2
+session A asn 64512
+import 1 tag 64512:0:2 set 64513:0:2 pref 300
 end
 """),
     ("an old configuration's evidence in which a preference is another", ["renewal"],

@@ -7,22 +7,15 @@ use Rattle.evidence_base.specs.Made.{PlainCaseEvidence}
 use Rattle.stage_classes.specs.Cells.{cells}
 use Rattle.evidence_reuse.specs.Reused.{AreForEach, IsStop, classes_of}
 use Rattle.evidence_reuse.proofs.Cases.{for_each}
-use Rattle.evidence_reuse.proofs.Making.{class_count, classes, classes_alike, reused_by, singles, stop_fault}
+use Rattle.evidence_reuse.proofs.Making.{classes, classes_alike, reused_by, singles, stop_fault}
 use Rattle.evidence_reuse.proofs.reuse.reused.Goals as goal
 
 pub renewed_config-requires-clause-renewed : goal.renewed_config-requires-clause-renewed
 renewed_config-requires-clause-renewed c =
     (c.args.old.now, record { compiled = c.args.compiled.now.cases; made = c.requires.made; renewed = c.in_ok-renewed.ensures.renewed })
 
-pub reused_cases-requires-clause-classes : goal.reused_cases-requires-clause-classes
-reused_cases-requires-clause-classes c =
-    ap length c.classes-4.ensures.classes
-    ∙ class_count c.args.net.now (policy_of c.args.policy.now) c.args.old.now c.args.evidence.now.cases c.args.compiled.now.cases c.requires.made c.in_ok-renewed.renewed.cases
-    c.in_ok-renewed.ensures.renewed c.in_ok-plain.plain.classes c.in_ok-plain.ensures.classes
-    ∙ ap length (sym c.as_slice-3.ensures)
-
-pub reused_cases-requires-clause-renewed : goal.reused_cases-requires-clause-renewed
-reused_cases-requires-clause-renewed c =
+pub reused_cases-requires : goal.reused_cases-requires
+reused_cases-requires c =
     let P : List PlainCaseEvidence → Type 0 = λ xs. AreForEach xs c.as_slice-4.result.now in
     let Q : List PlainCaseEvidence → Type 0 = λ ys. AreForEach c.args.compiled.now.cases ys in
     subst P (sym c.as_slice-3.ensures) (subst Q (sym c.as_slice-4.ensures) (for_each _ _ c.args.compiled.now.cases c.in_ok-renewed.renewed.cases c.in_ok-renewed.ensures.renewed))
@@ -31,16 +24,18 @@ pub judged_config-requires-clause-classes : goal.judged_config-requires-clause-c
 judged_config-requires-clause-classes c =
     let policy = policy_of c.args.policy.now in
     let is = reused_by c.args.net.now (policy_of c.args.policy.now) c.args.old.now c.args.evidence.now.cases c.args.compiled.now.cases c.requires.made c.in_ok-renewed.renewed.cases
-    c.in_ok-renewed.ensures.renewed c.classes-3.result.now c.classes-4.result.now c.as_slice-2.result.now c.as_slice-3.result.now c.as_slice-4.result.now c.in_ok-cases.cases c.classes-3.ensures.classes
-    (c.classes-4.ensures.classes ∙ c.in_ok-plain.ensures.classes) c.as_slice-2.ensures c.as_slice-3.ensures c.as_slice-4.ensures c.in_ok-cases.ensures in
+    c.in_ok-renewed.ensures.renewed c.as_slice.result.now c.as_slice-2.result.now c.as_slice-3.result.now c.as_slice-4.result.now c.in_ok-cases.cases
+    (c.as_slice.ensures ∙ c.in_ok-cells.ensures ∙ ap (λ (ps : List (List PlainPattern)). cells ps c.classes-2.result.now) c.classes.ensures.classes
+    ∙ ap (cells c.args.old.now.classes) (c.classes-2.ensures.classes ∙ c.in_ok-plain.ensures.classes)) c.as_slice-2.ensures c.as_slice-3.ensures c.as_slice-4.ensures c.in_ok-cases.ensures in
     subst (λ (xs : List PlainCaseEvidence). AreClasses policy (map (λ (e : PlainCaseEvidence). e.case) xs)) (sym c.as_slice-6.ensures)
     (classes c.args.net.now policy c.args.old.now c.args.evidence.now.cases c.in_ok-cases.cases is c.known_policy.ensures)
 
 pub judged_config-requires-clause-single : goal.judged_config-requires-clause-single
 judged_config-requires-clause-single c =
     let is = reused_by c.args.net.now (policy_of c.args.policy.now) c.args.old.now c.args.evidence.now.cases c.args.compiled.now.cases c.requires.made c.in_ok-renewed.renewed.cases
-    c.in_ok-renewed.ensures.renewed c.classes-3.result.now c.classes-4.result.now c.as_slice-2.result.now c.as_slice-3.result.now c.as_slice-4.result.now c.in_ok-cases.cases c.classes-3.ensures.classes
-    (c.classes-4.ensures.classes ∙ c.in_ok-plain.ensures.classes) c.as_slice-2.ensures c.as_slice-3.ensures c.as_slice-4.ensures c.in_ok-cases.ensures in
+    c.in_ok-renewed.ensures.renewed c.as_slice.result.now c.as_slice-2.result.now c.as_slice-3.result.now c.as_slice-4.result.now c.in_ok-cases.cases
+    (c.as_slice.ensures ∙ c.in_ok-cells.ensures ∙ ap (λ (ps : List (List PlainPattern)). cells ps c.classes-2.result.now) c.classes.ensures.classes
+    ∙ ap (cells c.args.old.now.classes) (c.classes-2.ensures.classes ∙ c.in_ok-plain.ensures.classes)) c.as_slice-2.ensures c.as_slice-3.ensures c.as_slice-4.ensures c.in_ok-cases.ensures in
     subst (AreSingle c.args.net.now) (sym c.as_slice-6.ensures)
     (singles c.args.net.now (policy_of c.args.policy.now) c.args.old.now c.args.evidence.now.cases c.in_ok-cases.cases is c.known_net.ensures c.requires.routers)
 
@@ -49,8 +44,9 @@ judged_config-requires-clause-cells c =
     let policy = policy_of c.args.policy.now in
     let old = c.args.old.now.classes in
     let is = reused_by c.args.net.now (policy_of c.args.policy.now) c.args.old.now c.args.evidence.now.cases c.args.compiled.now.cases c.requires.made c.in_ok-renewed.renewed.cases
-    c.in_ok-renewed.ensures.renewed c.classes-3.result.now c.classes-4.result.now c.as_slice-2.result.now c.as_slice-3.result.now c.as_slice-4.result.now c.in_ok-cases.cases c.classes-3.ensures.classes
-    (c.classes-4.ensures.classes ∙ c.in_ok-plain.ensures.classes) c.as_slice-2.ensures c.as_slice-3.ensures c.as_slice-4.ensures c.in_ok-cases.ensures in
+    c.in_ok-renewed.ensures.renewed c.as_slice.result.now c.as_slice-2.result.now c.as_slice-3.result.now c.as_slice-4.result.now c.in_ok-cases.cases
+    (c.as_slice.ensures ∙ c.in_ok-cells.ensures ∙ ap (λ (ps : List (List PlainPattern)). cells ps c.classes-2.result.now) c.classes.ensures.classes
+    ∙ ap (cells c.args.old.now.classes) (c.classes-2.ensures.classes ∙ c.in_ok-plain.ensures.classes)) c.as_slice-2.ensures c.as_slice-3.ensures c.as_slice-4.ensures c.in_ok-cases.ensures in
     let alike = classes_alike c.args.net.now policy c.args.old.now c.args.evidence.now.cases c.args.compiled.now.cases c.in_ok-cases.cases is in
     c.as_slice-5.ensures ∙ c.in_ok-cells.ensures
     ∙ ap (λ (ps : List (List PlainPattern)). cells ps c.classes-2.result.now) c.classes.ensures.classes
@@ -61,8 +57,9 @@ pub returns-in_err-config-clause-fault : goal.returns-in_err-config-clause-fault
 returns-in_err-config-clause-fault c =
     let policy = policy_of c.args.policy.now in
     let is = reused_by c.args.net.now (policy_of c.args.policy.now) c.args.old.now c.args.evidence.now.cases c.args.compiled.now.cases c.requires.made c.in_ok-renewed.renewed.cases
-    c.in_ok-renewed.ensures.renewed c.classes-3.result.now c.classes-4.result.now c.as_slice-2.result.now c.as_slice-3.result.now c.as_slice-4.result.now c.in_ok-cases.cases c.classes-3.ensures.classes
-    (c.classes-4.ensures.classes ∙ c.in_ok-plain.ensures.classes) c.as_slice-2.ensures c.as_slice-3.ensures c.as_slice-4.ensures c.in_ok-cases.ensures in
+    c.in_ok-renewed.ensures.renewed c.as_slice.result.now c.as_slice-2.result.now c.as_slice-3.result.now c.as_slice-4.result.now c.in_ok-cases.cases
+    (c.as_slice.ensures ∙ c.in_ok-cells.ensures ∙ ap (λ (ps : List (List PlainPattern)). cells ps c.classes-2.result.now) c.classes.ensures.classes
+    ∙ ap (cells c.args.old.now.classes) (c.classes-2.ensures.classes ∙ c.in_ok-plain.ensures.classes)) c.as_slice-2.ensures c.as_slice-3.ensures c.as_slice-4.ensures c.in_ok-cases.ensures in
     let e = c.in_err-config.field-0.0 in
     let stop = subst (λ (xs : List PlainCaseEvidence). IsStop c.args.net.now policy c.args.old.now xs e) c.as_slice-6.ensures c.in_err-config.ensures.stop in
     rw (passed_on c.from_residual-in_err-config.result c.from_residual-in_err-config.ensures.1)

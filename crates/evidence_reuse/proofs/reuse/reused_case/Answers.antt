@@ -3,7 +3,7 @@ use Rattle.std.proofs.lemmas.Result.{IfOk-weaker}
 use Rattle.evidence_reuse.proofs.reuse.reused_case.Goals as goal
 
 pub marked-requires : goal.marked-requires
-marked-requires c = (rw c.in-Some.is at c.staying.ensures.stays).same.graph
+marked-requires c = (rw c.in-Some.is at c.staying.ensures.stays).may.same.graph
 
 pub returns-in-Some : goal.returns-in-Some
 returns-in-Some c =
