@@ -49,13 +49,7 @@ use Rattle.impact_law.proofs.Tops.{routers, sessions}
 use Rattle.promises_report.specs.Claims.{IsClaimedOver, IsLeastRank, IsPassed, IsPlace, IsSourceIn}
 use Rattle.promises_report.specs.Laws.{ClaimedSourcesHaveRanks, TopsTellPromises, told_by}
 use Rattle.promises_report.specs.Promises.{ArePromises, IsPromised}
-
--- where a permitted walk begins is no origin
-pub begins_late : (net : PlainNet) (origin : ℕ → Bool) (s : PlainStatement) (l k : ℕ) (rest : List ℕ) → permits net origin s (l ∷ k ∷ rest) ≡ true → not (origin l) ≡ true
-begins_late net origin s l k rest permitted =
-    let walk = permits_parts net origin s (l ∷ k ∷ rest) permitted in
-    let ends = and_parts _ (not (list_any origin (front (l ∷ k ∷ rest)))) walk.1 in
-    not_from_false _ (or_parts (origin l) (list_any origin (front (k ∷ rest))) (not-true _ ends.1)).0
+use Rattle.promises_report.proofs.RankTelling.{begins_late, ranks_told}
 
 -- a source is at a place of its case
 pub source_place : (net : PlainNet) (s : PlainStatement) (c : Case) (r : ℕ) (peer : Option ℕ) → IsSourceIn net s c r peer → IsPlace net c r peer
@@ -264,6 +258,7 @@ module _ (net : PlainNet) (rules : IsNet net) (s : PlainStatement) (d : PlainCas
     promised = record {
       ranks = λ r peer at. place_tells r peer at (top r) refl;
       walks = λ r at. (λ h. let n = is_some_parts (top r) h in passed r n.0 (tops.some r n.0 n.1).reached, top_there r at);
+      have = ranks_told net s d on;
     }
 
   -- ---- there are tops

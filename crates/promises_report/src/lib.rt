@@ -20,25 +20,29 @@
 //! It knows nothing of the compiler.
 #![tactic(auto)]
 
+mod apart;
 mod case;
 mod cases;
 mod counts;
 mod group;
+mod meeting;
 mod places;
 mod promises;
 mod row;
+mod source_ranks;
 mod standing;
 mod telling;
 mod told;
 mod words;
 
+pub use apart::{ApartRanks, apart_ranks};
 pub use cases::{ToldCases, tell_cases};
 pub use counts::{Counts, is_covered, is_named_peer};
 pub use group::{Group, entry};
 pub use places::sessions_of;
 pub use promises::{
-    claimed_sources_have_ranks, groups_tell_of_cases, parts_are_what_is_taken, promises_are_kept,
-    tops_tell_promises,
+    apart_ranks_are_apart, claimed_sources_have_ranks, groups_tell_of_cases,
+    parts_are_what_is_taken, promises_are_kept, tops_tell_promises,
 };
 pub use standing::{Standing, Wanted, is_wanted};
 pub use telling::told_of;
