@@ -1,14 +1,13 @@
 -- The ranks that are told apart are those that no source has both of.
-use Rattle.std.proofs.Common.{◌≡◌, ℕ, zero, suc, ◌+◌, ◌<◌, ◌≤◌, ◌==◌, Bool, true, false, not, ◌&&◌, ◌||◌, List, [], ◌∷◌, ◌++◌, length, Option, Some, None, inl, inr, refl, sym, ap, ◌∙◌, subst, arith}
-use Rattle.std.specs.Prelude.{◌↔◌, IsTrue, min, nat_lt, slice_get, if◌then◌else◌}
-use Rattle.std.specs.List.{flat_map}
-use Rattle.std.proofs.lemmas.Bool.{and_from, and_parts, cases_Bool, eq-eqb, eqb-true, false_from_ne_true, lt-ltb, ltb-true, not-true, not_from_false, or_left, or_parts, or_right, true≢false}
-use Rattle.std.proofs.lemmas.Option.{same_Some, slice_get-get_or, slice_get_within}
+use Rattle.std.proofs.Common.{◌≡◌, ℕ, zero, suc, ◌+◌, ◌<◌, ◌≤◌, ◌==◌, Bool, true, false, not, ◌&&◌, ◌||◌, List, [], ◌∷◌, length, Option, Some, None, inl, inr, refl, sym, ap, ◌∙◌, subst, arith}
+use Rattle.std.specs.Prelude.{nat_lt, slice_get, if◌then◌else◌}
+use Rattle.std.proofs.lemmas.Bool.{and_from, and_parts, cases_Bool, eq-eqb, eqb-true, false_from_ne_true, lt-ltb, ltb-true, not-true, not_from_false, or_left, or_right, true≢false}
+use Rattle.std.proofs.lemmas.Option.{same_Some, slice_get_within}
 use Rattle.list_law.specs.Members.{IsIn}
-use Rattle.list_law.proofs.Members.{IsIn-append_cases, IsIn-append_left, IsIn-append_right, IsIn-cons_cases, IsIn-flat_map, IsIn-flat_map_parts, IsIn-later, IsIn-nil, list_any-from_IsIn, list_any_member}
+use Rattle.list_law.proofs.Members.{IsIn-append_cases, IsIn-append_left, IsIn-append_right, IsIn-cons_cases, IsIn-flat_map, IsIn-flat_map_parts, IsIn-nil, list_any-from_IsIn, list_any_member}
 use Rattle.net_base.specs.Locations.{numbers_below}
-use Rattle.net_base.specs.Network.{PlainNet, IsNet, is_peer, is_router}
-use Rattle.net_base.proofs.NumbersBelow.{In-numbers_below, below_from_In}
+use Rattle.net_base.specs.Network.{PlainNet}
+use Rattle.net_base.proofs.NumbersBelow.{In-numbers_below}
 use Rattle.policy_base.specs.declared.case.Case.{Case}
 use Rattle.policy_base.specs.declared.limits.TheConstants.{ALTERNATIVES}
 use Rattle.policy_base.specs.Cases.{case_list}

@@ -2,15 +2,14 @@
 use Rattle.std.proofs.Common.{◌≡◌, ℕ, ◌≤◌, Bool, true, List, [], ◌∷◌, ◌++◌, Option, Some, None, refl, sym, ap, ◌∙◌, inl, inr, subst}
 use Rattle.std.specs.Prelude.{not, is_some, slice_get}
 use Rattle.std.specs.Option.{option_and_then}
-use Rattle.std.specs.List.{list_any}
-use Rattle.std.proofs.lemmas.Bool.{and_parts, and_from, not-true, not_from_false, or_parts}
+use Rattle.std.proofs.lemmas.Bool.{and_parts, and_from, not-true}
 use Rattle.list_law.proofs.Options.{cases_Option, is_some_from, is_some_parts, none_or_some, option_and_then_parts, when_parts}
 use Rattle.net_base.specs.Network.{PlainNet, IsNet, is_location, is_peer, is_router}
 use Rattle.net_base.specs.Sets.{holds}
 use Rattle.net_base.proofs.RoutersAndPeers.{peer_no_router}
 use Rattle.policy_base.specs.declared.case.Case.{Case}
 use Rattle.policy_base.specs.CaseOrigins.{AreOrigins}
-use Rattle.policy_base.specs.Meaning.{front, rank_of}
+use Rattle.policy_base.specs.Meaning.{rank_of}
 use Rattle.policy_base.specs.Permitted.{from_holds}
 use Rattle.policy_base.specs.Policies.{IsPolicyOf, PlainPolicy, PlainStatement}
 use Rattle.policy_base.specs.Walks.{is_loop_free}

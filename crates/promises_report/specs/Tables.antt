@@ -1,5 +1,5 @@
 -- Tables of the ranks of sources: a row for each rank, with a bit for each source.
-use Rattle.std.specs.Prelude.{◌≡◌, ℕ, ◌+◌, ◌*◌, ◌<◌, ◌≤◌, Bool, ◌==◌, ◌&&◌, ◌||◌, nat_lt, List, length, Option}
+use Rattle.std.specs.Prelude.{◌≡◌, ℕ, ◌+◌, ◌*◌, ◌<◌, Bool, ◌==◌, ◌&&◌, ◌||◌, nat_lt, List, length, Option}
 use Rattle.std.specs.List.{list_any}
 use Rattle.bit_rows.specs.Tables.{PlainRows, has_at}
 use Rattle.net_base.specs.Locations.{numbers_below}

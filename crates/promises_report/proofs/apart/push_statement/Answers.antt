@@ -1,4 +1,4 @@
-use Rattle.std.proofs.Common.{◌≡◌, ◌<◌, ◌++◌, [], ℕ, List, append-nil, sym, ap, ◌∙◌, arith}
+use Rattle.std.proofs.Common.{◌<◌, ◌++◌, List, append-nil, sym, ap, ◌∙◌, arith}
 use Rattle.bit_rows.specs.Tables.{has_at}
 use Rattle.policy_base.specs.Policies.{plain_statement}
 use Rattle.promises_report.specs.declared.apart.ApartRanks.{ApartRanks}

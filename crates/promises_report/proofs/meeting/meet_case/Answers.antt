@@ -1,4 +1,4 @@
-use Rattle.std.proofs.Common.{◌≡◌, ◌||◌, ℕ, ap, ◌∙◌}
+use Rattle.std.proofs.Common.{◌||◌, ap, ◌∙◌}
 use Rattle.bit_rows.specs.Tables.{has_at}
 use Rattle.promises_report.proofs.Marking.{row_clear, table_meets}
 use Rattle.promises_report.proofs.meeting.meet_case.Goals as goal

@@ -1,4 +1,4 @@
-use Rattle.std.proofs.Common.{◌≡◌, ◌<◌, ◌+◌, ◌==◌, ◌||◌, ◌&&◌, ℕ, nat_lt}
+use Rattle.std.proofs.Common.{◌≡◌, ◌<◌, ◌==◌, ◌||◌, ◌&&◌, ℕ, nat_lt}
 use Rattle.bit_rows.specs.Tables.{IsSameSize, has_at}
 use Rattle.promises_report.specs.Tables.{meet_by}
 use Rattle.promises_report.proofs.meeting.meet_row.Given as goal

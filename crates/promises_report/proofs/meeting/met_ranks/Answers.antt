@@ -1,9 +1,7 @@
-use Rattle.std.proofs.Common.{◌≡◌, ◌==◌, ◌&&◌, ◌||◌, ℕ, List, length, get_or, take, refl, sym, ap, ap₂, ◌∙◌, subst, arith}
-use Rattle.std.specs.List.{list_any}
+use Rattle.std.proofs.Common.{◌==◌, ◌&&◌, ◌||◌, List, sym, ap, ap₂, ◌∙◌, subst, arith}
 use Rattle.std.proofs.lemmas.List.{take_all}
 use Rattle.std.proofs.lemmas.List.Folds.{list_any_more}
 use Rattle.evidence_base.specs.Made.{PlainCaseEvidence}
-use Rattle.bit_rows.specs.Tables.{has_at}
 use Rattle.promises_report.specs.Apart.{meet_in}
 use Rattle.promises_report.specs.NodeRanks.{has_rank_in}
 use Rattle.promises_report.specs.Tables.{AreMet, meet_among}

@@ -1,8 +1,7 @@
-use Rattle.std.proofs.Common.{◌≡◌, ◌<◌, ◌||◌, ℕ, length, refl, sym, ap, ◌∙◌, arith}
+use Rattle.std.proofs.Common.{◌≡◌, ◌||◌, length, refl, sym, ap, ◌∙◌, arith}
 use Rattle.std.specs.List.{list_any}
 use Rattle.std.proofs.Math.Bool.{or-false}
 use Rattle.bit_rows.specs.Tables.{has_at}
-use Rattle.graph_base.specs.declared.graph.Node.{Node}
 use Rattle.net_base.specs.Locations.{numbers_below}
 use Rattle.promises_report.specs.Tables.{node_sets}
 use Rattle.promises_report.proofs.Marking.{any_next, same_size, set_more, table_kept}
