@@ -74,7 +74,8 @@ covered    covered
 unused     unused origin {routers*}
 uncarried  uncarried {prefixes*}
 open       open {parts/} case {case#}
-cases      cases {cases#} unclaimed {unclaimed#} transit {transit#} covered {covered#} unused {unused#} uncarried {uncarried#} open {open#}
+apart      apart statement {statement#} alternatives {better#} {worse#}
+cases      cases {cases#} unclaimed {unclaimed#} transit {transit#} covered {covered#} unused {unused#} uncarried {uncarried#} open {open#} apart {apart#}
 """
 FINDINGS = """
 unused     unused group {group}
@@ -154,7 +155,7 @@ LINES = {
 # The format of a report, where it is no longer the first one.
 LATER = {"promises": 2, "whatif": 2}
 # The lines below which others stand, up to the next of their kind or the line that ends the report.
-ABOVE = {"promises": ("case", frozenset({"statement", "uncarried", "open", "cases"})), "whatif": ("cut", frozenset({"cuts"})),
+ABOVE = {"promises": ("case", frozenset({"statement", "uncarried", "open", "apart", "cases"})), "whatif": ("cut", frozenset({"cuts"})),
          "impact": ("cut", frozenset({"cuts"})), "compare": ("change", frozenset({"cases"}))}
 NONE_ABOVE: tuple[str, frozenset[str]] = ("", frozenset())
 # What the other commands write is no report: a configuration, evidence, maps or a page of help.

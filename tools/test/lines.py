@@ -10,7 +10,7 @@ CASE = "case 2 5 statement 3\nprefix 10.0.1.0/24,10.0.2.0/24 10.0.5.0/24\norigin
 CUT_LINK, CUT_ROUTER = "cut link R1 P1 moves 2 shifts 3\n", "cut router R2 moves 0 shifts 1\n"
 CHANGE = "change statement 1 now 2\n"
 DIFFERS = CHANGE + "prefix 10.0.1.0/24\norigins peers\ndiffers lost\n"
-COUNTED = "cases 1 unclaimed 0 transit 0 covered 0 unused 0 uncarried 0 open 0"  # the last line of promises
+COUNTED = "cases 1 unclaimed 0 transit 0 covered 0 unused 0 uncarried 0 open 0 apart 0"  # the last line of promises
 NAMES = ("R1", "R2", "R3", "P1", "P2")  # routers and peers of the lines
 
 
@@ -82,6 +82,7 @@ ROWS = (
     Row("promises", "open 10.0.8.0/24 le 32, 10.0.9.0/26 le 28 in 10.0.9.0/24, 10.0.9.64/27 in 10.0.9.0/24, 10.0.7.0/24 le 25 case 2",
         {"open": [["10.0.8.0/24 le 32", "10.0.8.0/24", 2], ["10.0.9.0/26 le 28", "10.0.9.0/24", 2], ["10.0.9.64/27", "10.0.9.0/24", 2],
                   ["10.0.7.0/24 le 25", "10.0.7.0/24", 2]]}, CASE),
+    Row("promises", "apart statement 3 alternatives 1 2", {"apart": [[3, 1, 2]]}, CASE),
     Row("promises", COUNTED, {"last": COUNTED}, CASE),
     Row("cuts", "base router R1 rank 2"),
     Row("cuts", "base session R1 P1 none"),

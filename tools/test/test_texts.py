@@ -41,7 +41,8 @@ prefix 0.0.0.0/0 le 32
 origin peers
 covered
 uncarried 10.0.9.0/24 10.0.8.0/24
-cases 4 unclaimed 9 transit 2 covered 1 unused 1 uncarried 2 open 0
+apart statement 1 alternatives 1 2
+cases 4 unclaimed 9 transit 2 covered 1 unused 1 uncarried 2 open 0 apart 1
 """
 
 
@@ -72,7 +73,7 @@ class Texts(unittest.TestCase):
             Promised(4, 2, ["0.0.0.0/0 le 32"], ["peers"], covered=True),
         ])
         self.assertEqual(found.ranks, {1: ["exit(P1) and avoid(R2)", "any"], 2: ["drop"]})
-        self.assertEqual(found.behind, PROMISES.splitlines()[-2:])
+        self.assertEqual(found.behind, PROMISES.splitlines()[-3:])
 
     def test_prefixes(self):
         for text in "10.0.0.0/8", "0.0.0.0/0", "255.255.255.255/32", "192.0.2.128/25":

@@ -91,7 +91,7 @@ def group_of(lines: Sequence[str]) -> list[Promised]:
 def promises_of(text: str) -> Promises:
     """What a text of `promises` says, each case alone, by number."""
     lines = text.splitlines()
-    ends = [place for place, line in enumerate(lines) if re.match("statement |case |uncarried |open |cases ", line)] + [len(lines)]
+    ends = [place for place, line in enumerate(lines) if re.match("statement |case |uncarried |open |apart |cases ", line)] + [len(lines)]
     found = Promises([], {}, [])
     for place, end in zip(ends, ends[1:]):
         first = lines[place]

@@ -40,7 +40,8 @@ use Rattle.impact_law.proofs.Support.{survives_all}
 use Rattle.promises_report.specs.Claims.{IsLeastRank, IsPlace, IsSourceIn}
 use Rattle.promises_report.specs.Laws.{PromisesAreKept, told_by}
 use Rattle.promises_report.specs.Promises.{AreKept, ArePromises, IsHeld, IsPromised, IsPromisedFor, Promises}
-use Rattle.promises_report.proofs.PromisesTelling.{begins_late, origins, source_place, tops_tell_promises}
+use Rattle.promises_report.proofs.PromisesTelling.{origins, source_place, tops_tell_promises}
+use Rattle.promises_report.proofs.RankTelling.{begins_late}
 
 by_statement : (net : PlainNet) (policy : PlainPolicy) (config : PlainConfig) (p : PlainPrefix) (outcome : Outcome) (s : PlainStatement) → statement_of policy p ≡ Some s
     → IsRightOutcome net policy config no_failures p outcome ≡ IsRightBy net policy config no_failures p s outcome

@@ -2,15 +2,14 @@
 use Rattle.std.proofs.Common.{◌≡◌, ℕ, ◌≤◌, Bool, true, List, [], ◌∷◌, ◌++◌, Option, Some, None, refl, sym, ap, ◌∙◌, inl, inr, subst}
 use Rattle.std.specs.Prelude.{not, is_some, slice_get}
 use Rattle.std.specs.Option.{option_and_then}
-use Rattle.std.specs.List.{list_any}
-use Rattle.std.proofs.lemmas.Bool.{and_parts, and_from, not-true, not_from_false, or_parts}
+use Rattle.std.proofs.lemmas.Bool.{and_parts, and_from, not-true}
 use Rattle.list_law.proofs.Options.{cases_Option, is_some_from, is_some_parts, none_or_some, option_and_then_parts, when_parts}
 use Rattle.net_base.specs.Network.{PlainNet, IsNet, is_location, is_peer, is_router}
 use Rattle.net_base.specs.Sets.{holds}
 use Rattle.net_base.proofs.RoutersAndPeers.{peer_no_router}
 use Rattle.policy_base.specs.declared.case.Case.{Case}
 use Rattle.policy_base.specs.CaseOrigins.{AreOrigins}
-use Rattle.policy_base.specs.Meaning.{front, rank_of}
+use Rattle.policy_base.specs.Meaning.{rank_of}
 use Rattle.policy_base.specs.Permitted.{from_holds}
 use Rattle.policy_base.specs.Policies.{IsPolicyOf, PlainPolicy, PlainStatement}
 use Rattle.policy_base.specs.Walks.{is_loop_free}
@@ -49,13 +48,7 @@ use Rattle.impact_law.proofs.Tops.{routers, sessions}
 use Rattle.promises_report.specs.Claims.{IsClaimedOver, IsLeastRank, IsPassed, IsPlace, IsSourceIn}
 use Rattle.promises_report.specs.Laws.{ClaimedSourcesHaveRanks, TopsTellPromises, told_by}
 use Rattle.promises_report.specs.Promises.{ArePromises, IsPromised}
-
--- where a permitted walk begins is no origin
-pub begins_late : (net : PlainNet) (origin : ℕ → Bool) (s : PlainStatement) (l k : ℕ) (rest : List ℕ) → permits net origin s (l ∷ k ∷ rest) ≡ true → not (origin l) ≡ true
-begins_late net origin s l k rest permitted =
-    let walk = permits_parts net origin s (l ∷ k ∷ rest) permitted in
-    let ends = and_parts _ (not (list_any origin (front (l ∷ k ∷ rest)))) walk.1 in
-    not_from_false _ (or_parts (origin l) (list_any origin (front (k ∷ rest))) (not-true _ ends.1)).0
+use Rattle.promises_report.proofs.RankTelling.{begins_late, ranks_told}
 
 -- a source is at a place of its case
 pub source_place : (net : PlainNet) (s : PlainStatement) (c : Case) (r : ℕ) (peer : Option ℕ) → IsSourceIn net s c r peer → IsPlace net c r peer
@@ -264,6 +257,7 @@ module _ (net : PlainNet) (rules : IsNet net) (s : PlainStatement) (d : PlainCas
     promised = record {
       ranks = λ r peer at. place_tells r peer at (top r) refl;
       walks = λ r at. (λ h. let n = is_some_parts (top r) h in passed r n.0 (tops.some r n.0 n.1).reached, top_there r at);
+      have = ranks_told net s d on;
     }
 
   -- ---- there are tops

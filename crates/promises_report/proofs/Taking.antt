@@ -194,7 +194,7 @@ module _ (net : PlainNet) (policy : PlainPolicy) (rules : IsNet net) (kept : IsP
       → is_permitted net policy p s (above ++ r ∷ rest) ≡ true → IsOpen policy taking p
   case_open k place c s at external statement governed number above rest r router permitted =
       let within : place < length xs = omega (arith, slice_get_within (case_list net policy) place c at, promised.size) in
-      let nobody : Promises = record { rank = λ r peer. None; passes = λ r. false } in
+      let nobody : Promises = record { rank = λ r peer. None; passes = λ r. false; has_rank = λ r peer n. false } in
       let a = get_or xs place nobody in
       let one : slice_get xs place ≡ Some a = slice_get-get_or xs place nobody within in
       let walks = (promised.each place c s a at (ap (statement_at policy) statement ∙ number) one).walks r router in

@@ -9,11 +9,17 @@ use Rattle.policy_base.specs.Permitted.{from_holds}
 use Rattle.policy_base.specs.Walks.{is_loop_free}
 use Rattle.evidence_law.specs.Faithful.{permits}
 use Rattle.evidence_law.specs.Passes.{IsClaimed}
+use Rattle.impact_law.specs.Impacts.{begin_at}
 
 -- where a case can have a source: a router that isn't an origin or, where the origins are routers, a session of a router to a peer
 abbrev pub IsPlace : PlainNet → Case → ℕ → Option ℕ → Type 0
 IsPlace net c r None = IsTrue (is_router net r && not (holds c.origins r))
 IsPlace net c r (Some peer) = (c.external ≡ false) × IsTrue (is_router net r && is_peer net peer)
+
+-- a router, or a session of a router to a peer
+abbrev pub is_site : PlainNet → ℕ → Option ℕ → Bool
+is_site net r None = is_router net r
+is_site net r (Some peer) = is_router net r && is_peer net peer
 
 -- a session of a router to a peer that the statement claims
 pub record IsClaimedOver (net : PlainNet) (s : PlainStatement) (c : Case) (r peer : ℕ) : Type 0 where
@@ -25,6 +31,13 @@ pub record IsClaimedOver (net : PlainNet) (s : PlainStatement) (c : Case) (r pee
 abbrev pub IsSourceIn : PlainNet → PlainStatement → Case → ℕ → Option ℕ → Type 0
 IsSourceIn net s c r None = IsClaimed net s c r
 IsSourceIn net s c r (Some peer) = IsClaimedOver net s c r peer
+
+-- a walk that the statement permits begins at the source, and has the rank
+pub record HasWalk (net : PlainNet) (s : PlainStatement) (c : Case) (r : ℕ) (peer : Option ℕ) (n : ℕ) : Type 0 where
+  pub source : IsSourceIn net s c r peer
+  pub rest : List ℕ
+  pub permitted : IsTrue (permits net (holds c.origins) s (begin_at r peer ++ rest))
+  pub rank : rank_of net s.ranked (begin_at r peer ++ rest) ≡ Some n
 
 -- a walk of the case that the statement permits, without a loop
 abbrev pub is_allowed_in : PlainNet → PlainStatement → Case → List ℕ → Bool

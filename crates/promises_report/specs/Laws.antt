@@ -13,13 +13,15 @@ use Rattle.impact_law.specs.BestRanks.{AreTops, rank_by}
 use Rattle.impact_law.specs.Impacts.{begin_at}
 use Rattle.outcome_base.specs.Outcomes.{no_failures}
 use Rattle.promises_report.specs.Claims.{IsLeastRank, IsSourceIn}
+use Rattle.promises_report.specs.NodeRanks.{has_rank_in}
 use Rattle.promises_report.specs.Promises.{AreKept, ArePromises, Promises}
 
--- the promises that tops tell
+-- the promises that tops tell, and the ranks of nodes
 abbrev pub told_by : PlainGraph → (ℕ → Option ℕ) → Promises
 told_by g top = record {
   rank = rank_by g top;
   passes = λ r. is_some (top r);
+  has_rank = has_rank_in g;
 }
 
 -- what holds of each case of a policy, with its statement and the tops without failures in its graph

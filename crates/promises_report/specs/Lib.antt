@@ -1,6 +1,7 @@
 pub mod Places
 pub mod Telling
 pub mod Claims
+pub mod NodeRanks
 pub mod Laws
 pub mod Promises
 pub mod Standings
@@ -9,3 +10,5 @@ pub mod Counting
 pub mod Taking
 pub mod Cases
 pub mod Taken
+pub mod Apart
+pub mod Tables

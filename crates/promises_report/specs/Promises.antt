@@ -11,12 +11,14 @@ use Rattle.outcome_base.specs.Outcomes.{Outcome, offered, route_at, no_failures}
 use Rattle.settled_law.specs.Settled.{IsFullyStable}
 use Rattle.impact_law.specs.BestRanks.{IsBestRank}
 use Rattle.impact_law.specs.Impacts.{IsSource, begin_at}
-use Rattle.promises_report.specs.Claims.{IsLeastRank, IsPassed, IsPlace, IsSourceIn}
+use Rattle.promises_report.specs.Claims.{HasWalk, IsLeastRank, IsPassed, IsPlace, IsSourceIn, is_site}
 
--- for each router, or session of a router to a peer, its best rank, or none where it isn't claimed; and which routers permitted walks pass
+-- for each router, or session of a router to a peer, its best rank, or none where it isn't claimed; which routers permitted walks pass; and
+-- which ranks the permitted walks of a router, or of its session, have
 pub record Promises : Type 0 where
   pub rank : ℕ → Option ℕ → Option ℕ
   pub passes : ℕ → Bool
+  pub has_rank : ℕ → Option ℕ → ℕ → Bool
 
 -- ---- by the case
 
@@ -27,6 +29,7 @@ IsPromised net s c r peer (Some n) = IsSourceIn net s c r peer × IsLeastRank ne
 pub record ArePromises (net : PlainNet) (s : PlainStatement) (c : Case) (a : Promises) : Type 0 where
   pub ranks : (r : ℕ) (peer : Option ℕ) → IsPlace net c r peer → IsPromised net s c r peer (a.rank r peer)
   pub walks : (r : ℕ) → IsTrue (is_router net r) → IsTrue (a.passes r) ↔ IsPassed net s c r
+  pub have : (r : ℕ) (peer : Option ℕ) (n : ℕ) → IsTrue (is_site net r peer) → IsTrue (a.has_rank r peer n) ↔ HasWalk net s c r peer n
 
 -- ---- by a prefix of the case
 

@@ -15,30 +15,40 @@
 //! What peers are believed in inside own prefixes is found by `own_space`, and the law `parts_are_what_is_taken` says what it
 //! is.
 //!
+//! Two ranks of a statement are apart where claimed sources have walks of either, and none has walks of both: then the
+//! preference between them decides nothing (`apart_ranks_are_apart`). Nodes tell it: a source has the ranks of the nodes at its
+//! router, or of those at its peer to which the router's nodes step. So a case is a row of sources for each rank
+//! (`source_ranks`), and two ranks meet where their rows do. All cases of a statement together fill one small table
+//! (`meeting`), and what is left clear in it is apart. Statements with one rank, which most have, cost nothing.
+//!
 //! `promises` alone needs it.
 //!
 //! It knows nothing of the compiler.
 #![tactic(auto)]
 
+mod apart;
 mod case;
 mod cases;
 mod counts;
 mod group;
+mod meeting;
 mod places;
 mod promises;
 mod row;
+mod source_ranks;
 mod standing;
 mod telling;
 mod told;
 mod words;
 
+pub use apart::{ApartRanks, apart_ranks};
 pub use cases::{ToldCases, tell_cases};
 pub use counts::{Counts, is_covered, is_named_peer};
 pub use group::{Group, entry};
 pub use places::sessions_of;
 pub use promises::{
-    claimed_sources_have_ranks, groups_tell_of_cases, parts_are_what_is_taken, promises_are_kept,
-    tops_tell_promises,
+    apart_ranks_are_apart, claimed_sources_have_ranks, groups_tell_of_cases,
+    parts_are_what_is_taken, promises_are_kept, tops_tell_promises,
 };
 pub use standing::{Standing, Wanted, is_wanted};
 pub use telling::told_of;

@@ -1,4 +1,5 @@
 //! What a policy promises for each of its cases while nothing has failed: laws without code.
+ghost use Rattle.promises_report.specs.Apart.{ApartRanksAreApart};
 ghost use Rattle.promises_report.specs.Groups.{GroupsTellOfCases};
 ghost use Rattle.promises_report.specs.Laws.{ClaimedSourcesHaveRanks, PromisesAreKept, TopsTellPromises};
 ghost use Rattle.promises_report.specs.Taken.{PartsAreWhatIsTaken};
@@ -31,4 +32,9 @@ pub fn parts_are_what_is_taken()
 /// Of each case some group tells how every router, origin and session stands in it.
 pub fn groups_tell_of_cases()
     ensures { GroupsTellOfCases }
+{}
+
+/// The ranks that are told apart are those of claimed sources that no claimed source has both of, in any case of their statement.
+pub fn apart_ranks_are_apart()
+    ensures { ApartRanksAreApart }
 {}

@@ -17,6 +17,8 @@ use Rattle.outcome_report.specs.Lines.{next_name}
 use Rattle.own_space.specs.declared.open_case.OpenCase.{OpenCase}
 use Rattle.own_space.specs.declared.open_part.OpenPart.{OpenPart}
 use Rattle.own_space.specs.Open.{open_parts}
+use Rattle.promises_report.specs.Apart.{apart_ranks}
+use Rattle.promises_report.specs.declared.apart.ApartRanks.{ApartRanks}
 use Rattle.promises_report.specs.Counting.{counts_in, is_covered, is_named_peer}
 use Rattle.promises_report.specs.Groups.{groups_of, rows_of}
 use Rattle.promises_report.specs.Places.{sessions_of}
@@ -169,6 +171,11 @@ own_part n part = if part.number == n then comma_part part else []
 unfoldable pub open_line : List OpenPart → OpenCase → List ℕ
 open_line parts c = line_of (codes "open") (drop 1 (flat_map (own_part c.number) parts)) (codes " case " ++ decimal c.number ++ codes "\n")
 
+-- ---- ranks that no source has both of
+
+unfoldable pub apart_line : ApartRanks → List ℕ
+apart_line x = codes "apart statement " ++ decimal x.statement ++ codes " alternatives " ++ decimal x.better ++ codes " " ++ decimal x.worse ++ codes "\n"
+
 -- ---- the whole
 
 -- how many lines of each kind the cases have
@@ -179,24 +186,27 @@ kinds_text counts =
     ++ codes " covered " ++ decimal counts.covered
     ++ codes " unused " ++ decimal counts.unused
 
--- and how many prefixes and parts stand after them
-unfoldable pub places_text : ℕ → ℕ → List ℕ
-places_text uncarried parts = codes " uncarried " ++ decimal uncarried ++ codes " open " ++ decimal parts ++ codes "\n"
+-- and how many prefixes, parts and pairs of ranks stand after them
+unfoldable pub places_text : ℕ → ℕ → ℕ → List ℕ
+places_text uncarried parts pairs = codes " uncarried " ++ decimal uncarried ++ codes " open " ++ decimal parts ++ codes " apart " ++ decimal pairs ++ codes "\n"
 
-unfoldable pub count_line : ℕ → Counts → ℕ → ℕ → List ℕ
-count_line cases counts uncarried parts = codes "cases " ++ decimal cases ++ kinds_text counts ++ places_text uncarried parts
+unfoldable pub count_line : ℕ → Counts → ℕ → ℕ → ℕ → List ℕ
+count_line cases counts uncarried parts pairs = codes "cases " ++ decimal cases ++ kinds_text counts ++ places_text uncarried parts pairs
 
--- what is said after the cases, where in these of them some router takes what peers announce, and these are the parts that peers are believed in
-abbrev pub last_lines : PlainPolicy → ℕ → Counts → List OpenCase → List OpenPart → List ℕ
-last_lines policy cases counts taking parts =
+-- what is said after the cases, where in these of them some router takes what peers announce, these are the parts that peers are believed in, and
+-- these the ranks that no source has both of
+abbrev pub last_lines : PlainPolicy → ℕ → Counts → List OpenCase → List OpenPart → List ApartRanks → List ℕ
+last_lines policy cases counts taking parts pairs =
     uncarried_line policy policy.origins
     ++ flat_map (open_line parts) taking
-    ++ count_line cases counts (count_by (is_uncarried policy) policy.origins) (length parts)
+    ++ flat_map apart_line pairs
+    ++ count_line cases counts (count_by (is_uncarried policy) policy.origins) (length parts) (length pairs)
 
 -- Each statement that has a case, with its ranks and its cases, of which those stand together that say the same; the originated prefixes
--- that no statement governs, in order of the text; what peers are believed in inside the network's own space; and how many cases there
--- are, and of each kind that may surprise.
+-- that no statement governs, in order of the text; what peers are believed in inside the network's own space; ranks that no source has both
+-- of; and how many cases there are, and of each kind that may surprise.
 abbrev pub promises_text : PlainNet → PlainPolicy → List Case → List Promises → List ℕ
 promises_text net policy cases told =
     statements_text net policy (groups_of net policy 1 cases (rows_of net cases told) []) 1 policy.statements
     ++ last_lines policy (length cases) (counts_in net policy cases (rows_of net cases told)) (taking_cases net 1 cases told) (open_parts policy (taking_cases net 1 cases told))
+    (apart_ranks net policy cases told)

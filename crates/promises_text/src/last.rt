@@ -1,8 +1,10 @@
 //! What is said after the cases. Each `push_` function adds a text to the end of another.
 ghost use Rattle.std.specs.Fmt.{decimal};
+ghost use Rattle.std.specs.List.{flat_map};
 ghost use Rattle.std.specs.Prelude.{◌≡◌, ◌++◌, OnOk};
 ghost use Rattle.policy_base.specs.Policies.{policy_of};
 ghost use Rattle.promises_text.specs.Texts.{
+  apart_line,
   count_line,
   is_uncarried as is_uncarried_by,
   kinds_text,
@@ -12,7 +14,7 @@ ghost use Rattle.promises_text.specs.Texts.{
 
 use input_output::NoMemory;
 use policy_base::{Origin, Policy, governing};
-use promises_report::Counts;
+use promises_report::{ApartRanks, Counts};
 use text_parts::{push_bytes, push_number, push_prefix};
 
 /// Whether no statement governs an originated prefix.
@@ -53,13 +55,40 @@ fn push_kinds(text: &mut Vec<u8>, counts: Counts) -> Result<(), NoMemory>
     push_count(text, b" unused ", counts.unused)
 }
 
-// Adds how many prefixes and parts stand after the cases.
+// Adds the line of two ranks that no source has both of.
+#[tactic(auto, unfolding(crate::specs::Texts::apart_line))]
+fn push_apart(text: &mut Vec<u8>, pair: ApartRanks) -> Result<(), NoMemory>
+    ensures { OnOk result (text.new.items ≡ text.old.items ++ apart_line pair) }
+{
+    push_count(text, b"apart statement ", u64::from(pair.statement))?;
+    push_count(text, b" alternatives ", u64::from(pair.better))?;
+    push_count(text, b" ", u64::from(pair.worse))?;
+    push_bytes(text, b"\n")
+}
+
+/// Adds the lines of ranks that no source has both of.
+pub fn push_all_apart(text: &mut Vec<u8>, pairs: &[ApartRanks]) -> Result<(), NoMemory>
+    ensures { OnOk result (text.new.items ≡ text.old.items ++ flat_map apart_line pairs.now) }
+{
+    for pair in pairs {
+        push_apart(text, *pair)?;
+    }
+    Ok(())
+}
+
+// Adds how many prefixes, parts and pairs of ranks stand after the cases.
 #[tactic(auto, unfolding(crate::specs::Texts::places_text))]
-fn push_places(text: &mut Vec<u8>, uncarried: usize, parts: usize) -> Result<(), NoMemory>
-    ensures { OnOk result (text.new.items ≡ text.old.items ++ places_text uncarried parts) }
+fn push_places(
+    text: &mut Vec<u8>,
+    uncarried: usize,
+    parts: usize,
+    pairs: usize,
+) -> Result<(), NoMemory>
+    ensures { OnOk result (text.new.items ≡ text.old.items ++ places_text uncarried parts pairs) }
 {
     push_count(text, b" uncarried ", uncarried as u64)?;
     push_count(text, b" open ", parts as u64)?;
+    push_count(text, b" apart ", pairs as u64)?;
     push_bytes(text, b"\n")
 }
 
@@ -71,10 +100,11 @@ pub fn push_counts(
     counts: Counts,
     uncarried: usize,
     parts: usize,
+    pairs: usize,
 ) -> Result<(), NoMemory>
-    ensures { OnOk result (text.new.items ≡ text.old.items ++ count_line cases counts uncarried parts) }
+    ensures { OnOk result (text.new.items ≡ text.old.items ++ count_line cases counts uncarried parts pairs) }
 {
     push_count(text, b"cases ", cases as u64)?;
     push_kinds(text, counts)?;
-    push_places(text, uncarried, parts)
+    push_places(text, uncarried, parts, pairs)
 }

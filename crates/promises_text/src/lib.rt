@@ -4,7 +4,7 @@
 //! What the lines tell is found by `promises_report`. Ranks are told once a statement, as the policy prints them and not as its source has
 //! them: the text is made of the policy alone, and two policies that mean the same read alike. What peers are believed in inside own
 //! prefixes stands on one line a case (`open_lines_are_what_is_taken`): a network has a prefix for each rack, and mostly one statement for
-//! the world.
+//! the world. Ranks that no source has both of stand behind all cases, since they are of a statement and of none of its cases.
 //!
 //! `promises` alone needs it.
 //!

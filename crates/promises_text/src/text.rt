@@ -18,7 +18,7 @@ ghost use Rattle.promises_report.specs.Cases.{HaveOneStep};
 ghost use Rattle.promises_text.specs.Written.{IsTextOf};
 
 use crate::groups::push_group;
-use crate::last::{is_uncarried, push_counts, push_uncarried};
+use crate::last::{is_uncarried, push_all_apart, push_counts, push_uncarried};
 use crate::line::push_line;
 use crate::parts::push_all_open;
 use evidence_base::CaseEvidence;
@@ -27,7 +27,7 @@ use net_base::{Loc, Net};
 use own_space::{OpenCase, OpenPart, covered_by_others, open_parts};
 use policy_base::{Origin, Policy, Ranked, Statement, alternatives};
 use policy_text::push_ranks;
-use promises_report::{Counts, Group, sessions_of, tell_cases};
+use promises_report::{ApartRanks, Counts, Group, apart_ranks, sessions_of, tell_cases};
 use std::alloc::Global;
 use text_parts::{push_bytes, push_number};
 
@@ -195,18 +195,22 @@ fn push_last(
     counts: Counts,
     taking: &[OpenCase],
     parts: &[OpenPart],
+    pairs: &[ApartRanks],
 ) -> Result<(), NoMemory>
-    ensures { OnOk result (text.new.items ≡ text.old.items ++ last_lines (policy_of policy.now) cases counts taking.now parts.now) }
+    ensures { OnOk result (text.new.items ≡ text.old.items ++ last_lines (policy_of policy.now) cases counts taking.now parts.now pairs.now) }
 {
     let origins = policy.origins();
     push_bare_line(alloc, text, policy, origins)?;
     push_all_open(alloc, text, taking, parts)?;
-    push_counts(text, cases, counts, uncarried(policy, origins), parts.len())
+    push_all_apart(text, pairs)?;
+    let bare = uncarried(policy, origins);
+    push_counts(text, cases, counts, bare, parts.len(), pairs.len())
 }
 
 /// The text of what a policy promises, by the evidence for its cases: each statement with its ranks, and its cases with the sources that
 /// it claims, their best ranks while nothing has failed, and who isn't claimed, where cases that say the same stand together; the
-/// originated prefixes that no statement governs; and what peers are believed in inside the network's own space.
+/// originated prefixes that no statement governs; what peers are believed in inside the network's own space; and ranks that no source has
+/// both of.
 pub fn promises_text(
     alloc: Global,
     net: &Net,
@@ -223,6 +227,7 @@ pub fn promises_text(
     let mut text = Vec::new(alloc);
     let told = tell_cases(alloc, net, policy, cases, sessions, &marks)?;
     let parts = open_parts(alloc, policy, &told.taking)?;
+    let pairs = apart_ranks(alloc, net, policy, cases)?;
     push_statements(
         alloc,
         &mut text,
@@ -240,6 +245,7 @@ pub fn promises_text(
         told.counts,
         &told.taking,
         &parts,
+        &pairs,
     )?;
     Ok(text)
 }

@@ -15,6 +15,8 @@ use Rattle.policy_base.specs.Cases.{case_list}
 use Rattle.policy_base.specs.Policies.{PlainPolicy, PlainStatement}
 use Rattle.policy_base.proofs.KnownCases.{case_known}
 use Rattle.config_base.specs.Configs.{PlainConfig}
+use Rattle.promises_report.specs.declared.apart.ApartRanks.{ApartRanks}
+use Rattle.promises_report.specs.Apart.{all_apart, apart_ranks, meet_at, meet_in, ranks_meet, sites}
 use Rattle.promises_report.specs.Claims.{IsPlace}
 use Rattle.promises_report.specs.Groups.{groups_of, rows_of}
 use Rattle.promises_report.specs.Promises.{ArePromises, IsPromised, Promises}
@@ -25,6 +27,8 @@ use Rattle.own_space.specs.Open.{open_parts}
 use Rattle.promises_report.specs.Counting.{counts_in}
 use Rattle.promises_report.specs.Taking.{takes, taking_case, taking_cases}
 use Rattle.promises_text.specs.Texts.{last_lines, statements_text}
+use Rattle.promises_report.proofs.Marking.{same_everywhere}
+use Rattle.promises_report.proofs.SiteLists.{listed_site}
 use Rattle.report_jobs.specs.Promised.{IsPromisesText}
 
 -- ---- what is promised at a place is one thing
@@ -97,6 +101,14 @@ module _ (net : PlainNet) (s : PlainStatement) (c : Case) (a b : Promises) (one 
   pub takes_same : takes net c a ≡ takes net c b
   takes_same = ap (λ t. c.external && t) (any_same a.passes b.passes routers passes_same)
 
+  has_same : (n : ℕ) (site : ℕ × Option ℕ) → IsIn (sites net) site → a.has_rank site.0 site.1 n ≡ b.has_rank site.0 site.1 n
+  has_same n site at =
+      let is = listed_site net site.0 site.1 at in
+      one_test (a.has_rank site.0 site.1 n) (b.has_rank site.0 site.1 n) (one.have site.0 site.1 n is) (other.have site.0 site.1 n is)
+
+  pub meet_same : (i j : ℕ) → meet_in net a.has_rank i j ≡ meet_in net b.has_rank i j
+  meet_same i j = any_same (meet_at a.has_rank i j) (meet_at b.has_rank i j) (sites net) (λ site at. ap₂ (λ t u. t && u) (has_same i site at) (has_same j site at))
+
 -- ---- all cases
 
 module _ (net : PlainNet) (policy : PlainPolicy) where
@@ -104,6 +116,7 @@ module _ (net : PlainNet) (policy : PlainPolicy) where
   record IsSame (c : Case) (a b : Promises) : Type 0 where
     row : row_of net c a ≡ row_of net c b
     takes : takes net c a ≡ takes net c b
+    meet : (i j : ℕ) → meet_in net a.has_rank i j ≡ meet_in net b.has_rank i j
 
   abbrev Same : List Case → List Promises → List Promises → Type 0
   Same cs xs bs = (i : ℕ) (c : Case) (a b : Promises) → slice_get cs i ≡ Some c → slice_get xs i ≡ Some a → slice_get bs i ≡ Some b → IsSame c a b
@@ -112,13 +125,14 @@ module _ (net : PlainNet) (policy : PlainPolicy) where
   record AreSame (k : ℕ) (cs : List Case) (xs bs : List Promises) : Type 0 where
     rows : rows_of net cs xs ≡ rows_of net cs bs
     taking : taking_cases net k cs xs ≡ taking_cases net k cs bs
+    meet : (number i j : ℕ) → ranks_meet net cs xs number i j ≡ ranks_meet net cs bs number i j
 
   taking_one : (k : ℕ) (c : Case) (a b : Promises) → takes net c a ≡ takes net c b → taking_case net k c a ≡ taking_case net k c b
   taking_one k c a b same = ap (λ (t : Bool). if t then record { number = k; statement = c.statement } ∷ [] else []) same
 
   all_same : (k : ℕ) (cs : List Case) (xs bs : List Promises) → length xs ≡ length bs → Same cs xs bs → AreSame k cs xs bs
-  all_same k [] xs bs size same = record { rows = refl; taking = refl }
-  all_same k (c ∷ cs) [] [] size same = record { rows = refl; taking = refl }
+  all_same k [] xs bs size same = record { rows = refl; taking = refl; meet = λ number i j. refl }
+  all_same k (c ∷ cs) [] [] size same = record { rows = refl; taking = refl; meet = λ number i j. refl }
   all_same k (c ∷ cs) [] (b ∷ bs) size same = absurd (cc)
   all_same k (c ∷ cs) (a ∷ xs) [] size same = absurd (cc)
   all_same k (c ∷ cs) (a ∷ xs) (b ∷ bs) size same =
@@ -128,15 +142,21 @@ module _ (net : PlainNet) (policy : PlainPolicy) where
       record {
         rows = ap₂ (λ (x : Row) (xs : List Row). x ∷ xs) first.row rest.rows;
         taking = ap₂ (λ (x y : List OpenCase). x ++ y) (taking_one k c a b first.takes) rest.taking;
+        meet = λ number i j. ap₂ (λ t u. t || u) (ap (λ t. c.statement == number && t) (first.meet i j)) (rest.meet number i j);
       }
 
   pub one_text : (config other_config : PlainConfig) (one other : List ℕ) → IsPromisesText net policy config one → IsPromisesText net policy other_config other → one ≡ other
   one_text config other_config one other x y =
       let cs = case_list net policy in
       let same = all_same 1 cs x.promises y.promises (x.size ∙ sym y.size) each in
+      let apart : apart_ranks net policy cs x.promises ≡ apart_ranks net policy cs y.promises =
+      ap (λ (met : ℕ → ℕ → ℕ → Bool). all_apart met 1 policy.statements) (same_everywhere (ranks_meet net cs x.promises) (ranks_meet net cs y.promises) same.meet) in
       let whole = ap₂ (λ (rs : List Row) (ts : List OpenCase).
       statements_text net policy (groups_of net policy 1 cs rs []) 1 policy.statements
-      ++ last_lines policy (length cs) (counts_in net policy cs rs) ts (open_parts policy ts)) same.rows same.taking in
+      ++ last_lines policy (length cs) (counts_in net policy cs rs) ts (open_parts policy ts) (apart_ranks net policy cs x.promises)) same.rows same.taking
+      ∙ ap (λ (ps : List ApartRanks).
+      statements_text net policy (groups_of net policy 1 cs (rows_of net cs y.promises) []) 1 policy.statements
+      ++ last_lines policy (length cs) (counts_in net policy cs (rows_of net cs y.promises)) (taking_cases net 1 cs y.promises) (open_parts policy (taking_cases net 1 cs y.promises)) ps) apart in
       x.spelled ∙ whole ∙ sym y.spelled
     where
       each : Same (case_list net policy) x.promises y.promises
@@ -147,4 +167,5 @@ module _ (net : PlainNet) (policy : PlainPolicy) where
           record {
             row = row_same net s.0 c a b a_is.promised b_is.promised;
             takes = takes_same net s.0 c a b a_is.promised b_is.promised;
+            meet = meet_same net s.0 c a b a_is.promised b_is.promised;
           }

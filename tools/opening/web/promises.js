@@ -53,6 +53,11 @@ const openShown = (list) => el("div", { class: "say lint" },
     el("p", { class: "line" }, `open ${some(parts.map(partTold), 8)} case ${parts[0].number}`)),
   el("p", {}, "A peer that announces one of these is believed: packets for the originated prefix go to it."));
 
+const apartShown = (list, ranks) => el("div", { class: "say lint" },
+  list.map(({ statement, better, worse }) => el("p", { class: "line", title: [better, worse].map((rank) => ranks.get(statement)?.[rank - 1] ?? "").join(" >> ") },
+    `apart statement ${statement} alternatives ${better} ${worse}`)),
+  el("p", {}, "No source has paths of both, so the order of the two decides nothing."));
+
 let shown = null;
 
 function showPromises() {
@@ -63,6 +68,7 @@ function showPromises() {
   put(by("promises"), shown ? [
     shown.uncarried.length ? uncarriedShown(shown.uncarried) : null,
     shown.open.length ? openShown(shown.open) : null,
+    shown.apart.length ? apartShown(shown.apart, shown.ranks) : null,
     grouped(shown.cases, alike).map((group) => groupShown(group, prefixOf))]
     : el("div", { class: "say" }, "Nothing is promised while the policy isn't accepted."));
   const options = [...new Map(every.map((each) => [each.prefix, each])).values()].slice(0, MOST_LISTED);

@@ -65,10 +65,11 @@ function openOf(line) {
 
 /**
  * What `promises` says: its cases, each alone though cases that say the same stand together in the text; the alternative of each rank of
- * each statement; what no statement governs, what peers are believed in inside the own space, and its last line.
+ * each statement; what no statement governs, what peers are believed in inside the own space, ranks that no source has both of, and its last
+ * line.
  */
 export function promisesOf(text) {
-  const cases = [], ranks = new Map(), uncarried = [], open = [];
+  const cases = [], ranks = new Map(), uncarried = [], open = [], apart = [];
   let last = "", group = [], alternatives = [];
   for (const line of text.split("\n")) {
     const words = line.split(" "), [kind] = words;
@@ -81,11 +82,12 @@ export function promisesOf(text) {
     else if (kind === "origin") words.slice(1).forEach((word, at) => group[at].origins.push(...word.split(",")));
     else if (kind === "uncarried") uncarried.push(...words.slice(1));
     else if (kind === "open") open.push(...openOf(line));
+    else if (kind === "apart") apart.push({ statement: Number(words[2]), better: Number(words[4]), worse: Number(words[5]) });
     else if (kind === "cases") last = line;
     else group.forEach((each) => noteCase(each, words));
   }
   cases.sort((one, other) => one.number - other.number);
-  return { cases, ranks, uncarried, open, last };
+  return { cases, ranks, uncarried, open, apart, last };
 }
 
 /** A link or a router that is cut: what it is called, how many others move or shift, and whose best rank changes. */
