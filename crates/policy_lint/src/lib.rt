@@ -24,8 +24,8 @@ mod groups;
 mod laws;
 mod statements;
 
+pub use case_graphs::{LimitRefusal, compile_refusal};
 pub use finding::Finding;
 pub use findings::lint;
 pub use laws::one_list_of_findings_is_told;
 pub use lint_cover::covered_by;
-pub use case_graphs::{LimitRefusal, compile_refusal};
