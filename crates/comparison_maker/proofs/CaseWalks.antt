@@ -17,9 +17,10 @@ use Rattle.policy_base.specs.declared.policy.Origin.{Origin}
 use Rattle.policy_base.specs.Cases.{case_list, external_cases, originated_cases}
 use Rattle.policy_base.specs.CaseNumbers.{IsCase}
 use Rattle.policy_base.specs.CaseOrigins.{AreOrigins}
-use Rattle.policy_base.specs.Governing.{governing, is_origin_by, originated_at, statement_of}
+use Rattle.policy_base.specs.Governing.{governing, is_origin, is_origin_by, originated_at, statement_of}
 use Rattle.policy_base.specs.Policies.{IsPolicyOf, PlainPolicy, PlainStatement, statement_at}
 use Rattle.graph_base.specs.Graphs.{IsGraph, PlainGraph}
+use Rattle.evidence_law.specs.Faithful.{IsFaithful}
 use Rattle.evidence_law.specs.Passes.{all_steps}
 use Rattle.evidence_law.proofs.CaseLists.{AreOriginated, IsOriginatedCase, originated_are}
 use Rattle.evidence_law.proofs.ClassFound.{Names, class_named, names_each, originated_by}
@@ -28,11 +29,17 @@ use Rattle.case_core.proofs.Given.{made_is_faithful}
 use Rattle.case_core.proofs.Places.{origins_fit}
 use Rattle.compare_base.specs.declared.cases.PrefixCase.{PrefixCase}
 use Rattle.compare_base.specs.Cases.{case_for}
-use Rattle.compare_base.specs.Ranks.{rank_for}
 use Rattle.case_graphs.specs.Graphs.{HasCase, IsGraphFor, prefix_case}
-use Rattle.pair_rows.proofs.CaseRanks.{ungoverned as ungoverned_ranks, unoriginated as unoriginated_ranks}
+use Rattle.pair_rows.specs.Rows.{no_graph}
 use Rattle.pair_changes.specs.Shown.{ShowsWalks}
-use Rattle.pair_changes.proofs.Shows.{shows_no_walks, shows_walks}
+
+-- faithful graphs show the walks of a prefix, and so does the graph without nodes where nothing is permitted
+pub record AreShown : Type 0 where
+  pub faithful : (net : PlainNet) (policy : PlainPolicy) (p : PlainPrefix) (s : PlainStatement) (c : Case) (g : PlainGraph) → IsGraph g
+      → IsFaithful net s (holds c.origins) c.external g → statement_of policy p ≡ Some s → ((l : ℕ) → holds c.origins l ≡ is_origin net policy p l)
+      → ShowsWalks net policy p g
+  pub ungoverned : (net : PlainNet) (policy : PlainPolicy) (p : PlainPrefix) → statement_of policy p ≡ None → ShowsWalks net policy p no_graph
+  pub unoriginated : (net : PlainNet) (policy : PlainPolicy) (p : PlainPrefix) → ((l : ℕ) → is_origin net policy p l ≡ false) → ShowsWalks net policy p no_graph
 
 -- a case of the policy that decides the prefix
 record IsCaseFor (net : PlainNet) (policy : PlainPolicy) (p : PlainPrefix) (s : PlainStatement) : Type 0 where
@@ -143,17 +150,17 @@ module _ (net : PlainNet) (policy : PlainPolicy) (p : PlainPrefix) (rules : IsNe
   same_origins true at o same are l = are l ∙ ap (λ x. is_origin_by net x l) same
   same_origins false at o same are l = ap (λ x. is_origin_by net x l) same
 
-  module _ (g : PlainGraph) (graph : IsGraph g) (is : IsGraphFor net policy (case_for policy p) g) where
+  module _ (shown : AreShown) (g : PlainGraph) (graph : IsGraph g) (is : IsGraphFor net policy (case_for policy p) g) where
     by_case : (s : PlainStatement) → statement_of policy p ≡ Some s → IsCaseFor net policy p s → ShowsWalks net policy p g
     by_case s governed has =
         let made = is.made has.number s has.c has.is has.decides in
         let fit = origins_fit has.is kept.routers in
         let faithful = made_is_faithful net all_steps s has.c made.0 g rules fit made.1 in
         let origins = same_origins has.c.external has.c.origins (originated_at policy.origins p) (ap (λ (x : PrefixCase). x.origins) has.decides) (fit rules) in
-        shows_walks net policy p s has.c g graph faithful governed origins
+        shown.faithful net policy p s has.c g graph faithful governed origins
 
-    by_none : (HasCase net policy (case_for policy p) → ⊥) → ((path : List ℕ) → rank_for net policy p path ≡ None) → ShowsWalks net policy p g
-    by_none none bare = subst (ShowsWalks net policy p) (sym (is.none none)) (shows_no_walks net policy p bare)
+    by_none : (HasCase net policy (case_for policy p) → ⊥) → ShowsWalks net policy p no_graph → ShowsWalks net policy p g
+    by_none none bare = subst (ShowsWalks net policy p) (sym (is.none none)) bare
 
     governed_shows : (s : PlainStatement) → statement_of policy p ≡ Some s → ShowsWalks net policy p g
     governed_shows s governed = elim (cases_Option (originated_at policy.origins p)) [
@@ -161,12 +168,12 @@ module _ (net : PlainNet) (policy : PlainPolicy) (p : PlainPrefix) (rules : IsNe
       | inl none ↦ elim (cases_Bool (length net.peers == 0)) [
         | inr some ↦ by_case s governed (outer_case s governed none some)
         | inl empty ↦ by_none (peerless_none none empty)
-            (unoriginated_ranks net policy p (λ l. ap (λ (o : Option LocSet). is_origin_by net o l) none ∙ no_peer net l (eqb-true _ _ empty)))
+            (shown.unoriginated net policy p (λ l. ap (λ (o : Option LocSet). is_origin_by net o l) none ∙ no_peer net l (eqb-true _ _ empty)))
       ]
     ]
 
     pub case_shows : ShowsWalks net policy p g
     case_shows = elim (cases_Option (statement_of policy p)) [
-      | inl free ↦ by_none (ungoverned_none free) (ungoverned_ranks net policy p free)
+      | inl free ↦ by_none (ungoverned_none free) (shown.ungoverned net policy p free)
       | inr s ↦ governed_shows s.0 s.1
     ]
