@@ -42,9 +42,9 @@ module _ (net : PlainNet) (old new : PlainPolicy) (graphs : BothGraphs) (both : 
   -- why the pair isn't compared
   pub refused_for : (f : PairFault) (room : ℕ) → (f ≡ fault.TooManySteps → PassesRoom before after room) → IsRefusedAt net old new cases room (refusal_for cases f)
   refused_for fault.TooManySteps room many =
-      record { before = before; after = after; is_before = of_old; is_after = of_new; passes = many refl; one = refl; other = refl }
+      record { before = before; after = after; is_before = of_old; is_after = of_new; passes = many refl; is_one = refl; is_other = refl }
   refused_for fault.NoMemory room many = tt
 
   -- the count of steps is that of the pair of cases
   pub steps_for : (used : ℕ) → HasPairSteps before after used → HasSteps net old new cases used
-  steps_for used has = record { before = before; after = after; pairs = has.pairs; both = has.both; is_before = of_old; is_after = of_new; is = has.is; count = has.steps }
+  steps_for used has = record { before = before; after = after; pairs = has.pairs; both = has.both; is_before = of_old; is_after = of_new; is = has.is; steps = has.steps }
