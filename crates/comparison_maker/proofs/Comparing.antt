@@ -104,8 +104,8 @@ module _ (net : PlainNet) (old new : PlainPolicy) (all : List Pair) where
           is_before = refused.is_before;
           is_after = refused.is_after;
           passes = subst (PassesRoom refused.before refused.after) rest refused.passes;
-          one = refused.one;
-          other = refused.other;
+          is_one = refused.is_one;
+          is_other = refused.is_other;
         },
       )
   refused_next graphs done xs room pair NoMemory both are before next refused = tt

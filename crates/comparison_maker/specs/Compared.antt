@@ -43,8 +43,8 @@ pub record PassesAt (net : PlainNet) (old new : PlainPolicy) (cases : CasePair) 
   pub is_before : IsGraphFor net old cases.old before
   pub is_after : IsGraphFor net new cases.new after
   pub passes : PassesRoom before after room
-  pub one : one ≡ cases.old.statement
-  pub other : other ≡ cases.new.statement
+  pub is_one : one ≡ cases.old.statement
+  pub is_other : other ≡ cases.new.statement
 
 -- why a pair of cases isn't compared: its graph has more steps than there is room for, or memory was refused
 abbrev pub IsRefusedAt : PlainNet → PlainPolicy → PlainPolicy → CasePair → ℕ → ComparisonRefusal → Type 0

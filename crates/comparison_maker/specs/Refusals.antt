@@ -24,7 +24,7 @@ pub record HasSteps (net : PlainNet) (old new : PlainPolicy) (cases : CasePair) 
   pub is_before : IsGraphFor net old cases.old before
   pub is_after : IsGraphFor net new cases.new after
   pub is : IsPairGraph before after pairs both
-  pub count : count ≡ length both.steps
+  pub steps : count ≡ length both.steps
 
 -- the graphs of the first pairs have so many steps, one after the other
 abbrev pub HaveSteps : PlainNet → PlainPolicy → PlainPolicy → List Pair → List ℕ → Type 0
@@ -47,8 +47,8 @@ pub record PassesSteps (net : PlainNet) (old new : PlainPolicy) (one other : Opt
   pub is_before : IsGraphFor net old pair.cases.old before
   pub is_after : IsGraphFor net new pair.cases.new after
   pub passes : PassesRoom before after (PAIR_STEPS - sum_of counts)
-  pub one : one ≡ pair.cases.old.statement
-  pub other : other ≡ pair.cases.new.statement
+  pub is_one : one ≡ pair.cases.old.statement
+  pub is_other : other ≡ pair.cases.new.statement
 
 -- all pairs together have no more
 pub record AreStepsWithin (net : PlainNet) (old new : PlainPolicy) : Type 0 where

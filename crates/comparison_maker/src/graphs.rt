@@ -8,6 +8,7 @@ ghost use Rattle.case_graphs.specs.Limits.{AreAllWithin, IsRefused};
 ghost use Rattle.comparison_maker.specs.Compared.{AreGraphsOfBoth, IsChangeFor, IsRefusedAt, refusal_for};
 ghost use Rattle.comparison_maker.specs.Refusals.{HasSteps, IsRefusedFor};
 
+use crate::laws::case_graphs_show_walks;
 use crate::refusal::ComparisonRefusal;
 use case_graphs::{CaseGraphs, LimitRefusal, case_graphs};
 use compare_base::CasePair;
@@ -111,6 +112,7 @@ impl BothGraphs {
         let new = self.new.graph_for(&cases.new);
         known_graph(old);
         known_graph(new);
+        case_graphs_show_walks();
         match pair_change(alloc, net, cases, old, new, room) {
             Ok(given) => Ok(given),
             Err(fault) => Err(refusal_of_pair(cases, fault)),

@@ -8,7 +8,7 @@ use Rattle.comparison_maker.proofs.graphs.BothGraphs.change_of.Goals as goal
 pub returns-in-Ok-clause-change : goal.returns-in-Ok-clause-change
 returns-in-Ok-clause-change c = λ old new both.
     change_for c.args.net.now old new c.args.self.now both c.args.cases.now c.graph_for-old.result.now c.graph_for-new.result.now c.graph_for-old.ensures c.graph_for-new.ensures
-    c.known_graph.ensures c.known_graph-2.ensures c.in-Ok.given.change c.in-Ok.ensures.change
+    c.case_graphs_show_walks.ensures c.known_graph.ensures c.known_graph-2.ensures c.in-Ok.given.change c.in-Ok.ensures.change
 
 pub returns-in-Ok-clause-used : goal.returns-in-Ok-clause-used
 returns-in-Ok-clause-used c = λ old new both.
