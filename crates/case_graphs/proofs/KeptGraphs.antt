@@ -1,60 +1,31 @@
 -- The graphs of the cases that were gone over are kept.
-use Rattle.std.proofs.Common.{◌≡◌, ℕ, zero, suc, ◌+◌, ◌≤◌, ◌<◌, Bool, true, false, length, Option, Some, None, refl, sym, ap, subst, ◌∙◌, inl, inr, arith}
-use Rattle.std.specs.Prelude.{◌⊎◌, if◌then◌else◌, unwrap_or, slice_get}
-use Rattle.std.specs.Option.{option_eq}
-use Rattle.std.proofs.lemmas.Bool.{and_from, and_parts, cases_Bool, cases_order, false≢true}
+use Rattle.std.proofs.Common.{◌≡◌, ℕ, zero, suc, ◌+◌, ◌≤◌, Bool, true, false, length, Option, Some, None, refl, sym, ap, subst, ◌∙◌, inl, inr, arith}
+use Rattle.std.specs.Prelude.{if◌then◌else◌, unwrap_or}
+use Rattle.std.proofs.lemmas.Bool.{cases_Bool, cases_order, false≢true}
 use Rattle.std.proofs.lemmas.Option.{same_Some, slice_get_within}
-use Rattle.std.proofs.lemmas.Slice.Eq.{bytes_eq-Decides}
-use Rattle.list_law.proofs.Options.{cases_Option, option_eq-is, is-option_eq}
-use Rattle.indexmap.specs.IndexMap.{IndexMap, get}
+use Rattle.list_law.proofs.Options.{cases_Option}
+use Rattle.indexmap.specs.IndexMap.{get}
 use Rattle.policy_base.specs.declared.limits.TheConstants.{ALTERNATIVES}
 use Rattle.net_base.specs.declared.loc.LocSet.{LocSet}
 use Rattle.net_base.specs.Network.{PlainNet, is_peer}
-use Rattle.net_base.specs.Sets.{holds, same_set, set_of}
+use Rattle.net_base.specs.Sets.{holds, set_of}
 use Rattle.policy_base.specs.declared.case.Case.{Case}
-use Rattle.policy_base.specs.declared.policy.Origin.{Origin}
 use Rattle.policy_base.specs.Cases.{case_list}
 use Rattle.policy_base.specs.CaseNumbers.{IsCase, case_at}
 use Rattle.policy_base.specs.Meaning.{alternative_count}
 use Rattle.policy_base.specs.Policies.{PlainPolicy, PlainStatement, statement_at}
 use Rattle.policy_base.proofs.KnownCases.{IsKnown, case_known}
 use Rattle.graph_base.specs.Graphs.{PlainGraph}
-use Rattle.graph_law.specs.Limits.{IsBuiltWithin}
 use Rattle.path_exprs.specs.Forward.{expressions}
 use Rattle.path_exprs.specs.Standings.{Plan, plan_for}
 use Rattle.walk_states.specs.Built.{IsBuilt}
 use Rattle.evidence_law.specs.Passes.{all_steps}
-use Rattle.evidence_law.proofs.CaseLists.{set_is}
 use Rattle.compare_base.specs.declared.cases.PrefixCase.{PrefixCase}
 use Rattle.compare_base.specs.Same.{same_case}
+use Rattle.compare_base.proofs.SameCases.{case_is, case_same}
 use Rattle.case_core.specs.Refusals.{IsMade}
 use Rattle.case_graphs.specs.declared.graphs.CaseGraphs.{CaseGraphs}
-use Rattle.case_graphs.specs.Graphs.{AreCaseGraphs, HasCase, IsGraphFor, graph_in, no_graph, prefix_case}
-
--- ---- when two cases decide the same prefixes
-
-sets_are : (a b : Option LocSet) → option_eq same_set a b ≡ true → a ≡ b
-sets_are None None same = refl
-sets_are None (Some t) same = absurd (false≢true same)
-sets_are (Some s) None same = absurd (false≢true same)
-sets_are (Some s) (Some t) same = ap Some (set_is s t same)
-
-sets_same : (a b : Option LocSet) → a ≡ b → option_eq same_set a b ≡ true
-sets_same a b is = ap (λ o. option_eq same_set a o) (sym is) ∙ itself a
-  where
-    itself : (o : Option LocSet) → option_eq same_set o o ≡ true
-    itself None = refl
-    itself (Some s) = (bytes_eq-Decides s.words s.words).1 refl
-
-case_is : (a b : PrefixCase) → same_case a b ≡ true → a ≡ b
-case_is a b same =
-    let parts = and_parts _ _ same in
-    let statement = option_eq-is a.statement b.statement parts.0 in
-    let origins = sets_are a.origins b.origins parts.1 in
-    λ i. record { statement = statement i; origins = origins i }
-
-case_same : (a b : PrefixCase) → a ≡ b → same_case a b ≡ true
-case_same a b is = and_from _ _ (is-option_eq a.statement b.statement (ap (λ (c : PrefixCase). c.statement) is)) (sets_same a.origins b.origins (ap (λ (c : PrefixCase). c.origins) is))
+use Rattle.case_graphs.specs.Graphs.{AreCaseGraphs, HasCase, graph_in, no_graph, prefix_case}
 
 -- ---- one graph serves all of them
 

@@ -88,8 +88,7 @@ module _ (net : PlainNet) (old new : PlainPolicy) (all : List Pair) where
   refused_next graphs done xs room pair (Old e) both are before next refused = absurd refused
   refused_next graphs done xs room pair (New e) both are before next refused = absurd refused
   refused_next graphs done xs room pair (TooManySteps one other) both are before next refused =
-      let rest : room ≡ PAIR_STEPS - sum_of before.counts = omega (arith, before.left) in
-      (
+      let rest : room ≡ PAIR_STEPS - sum_of before.counts = omega (arith, before.left) in (
         both.old_within,
         both.new_within,
         record {

@@ -1,2 +1,3 @@
+pub mod CaseWalks
 mod Cases
 mod Comparing

@@ -12,7 +12,6 @@ use crate::refusal::ComparisonRefusal;
 use compare_base::Pair;
 use comparison::ComparedPair;
 use net_base::{List, Net};
-use pair_changes::ChangedPair;
 use std::alloc::Global;
 
 /// The pairs in their order, each with what it changes. One room for steps is shared by all: each pair has what the earlier ones left.
@@ -29,9 +28,12 @@ pub(crate) fn compared_pairs(
     let mut all = List::new(alloc);
     let mut room = PAIR_STEPS as u32;
     for pair in pairs.into_vec() {
-        let ChangedPair { change, used } = graphs.change_of(alloc, net, &pair.cases, room)?;
-        room -= used;
-        all.push(ComparedPair { pair, change })?;
+        let given = graphs.change_of(alloc, net, &pair.cases, room)?;
+        room -= given.used;
+        all.push(ComparedPair {
+            pair,
+            change: given.change,
+        })?;
     }
     Ok(all)
 }

@@ -1,17 +1,14 @@
 //! Which ranks the permitted walks of each statement's cases have, or the limit that a case passes.
 //!
-//! `reached_ranks` goes over the cases as the compiler does, with the same room for steps and the same automata, and keeps of
-//! each graph the ranks of its nodes alone: a row of bits for each statement. The ranks of the nodes are those of the walks
-//! (`ranks_of_nodes_are_those_of_walks`).
+//! `reached_ranks` marks the ranks of the nodes of each case's graph (`case_graphs`): a row of bits for each statement. The ranks of the
+//! nodes are those of the walks (`ranks_of_nodes_are_those_of_walks`).
 //!
 //! An alternative is reached by walks, and not by paths without loops. A permitted walk may visit a router twice, and the
 //! graph has a node for what it has passed. So an alternative that only a loop meets counts as reached, as everywhere where
 //! the ranks of a policy are spoken of. To ask it of paths without loops would be a search over all of them.
 //!
-//! The limits are asked and no more: neither that sources have paths nor that numbers exist. So a policy that `compile`
-//! refuses for these can be linted, and a limit may refuse a later case than the one that `compile` refuses. `LimitRefusal`
-//! has these three limits and want of memory alone; `compile_refusal` says it as a refusal of the compiler, with the same
-//! line.
+//! The limits are asked and no more, as `case_graphs` says. So a policy can be linted that `compile` refuses for its sources, or since no
+//! numbers exist.
 //!
 //! `lint` alone needs it.
 //!

@@ -1,4 +1,4 @@
-//! The cases one after the other, with the ranks that their walks have.
+//! The ranks that the walks of each statement's cases have.
 ghost use Rattle.std.specs.Prelude.{◌≡◌, ◌+◌, ◌<◌, ◌^◌, IfErr, IfOk, OnOk, length};
 ghost use Rattle.policy_base.specs.declared.limits.TheConstants.{ALTERNATIVES};
 ghost use Rattle.policy_base.specs.Cases.{case_list};
@@ -9,15 +9,12 @@ ghost use Rattle.lint_ranks.specs.Marks.{AreReached};
 
 use crate::marks::mark_ranks;
 use bit_rows::Rows;
-use case_core::KeptAutomata;
-use case_graphs::{LimitRefusal, case_within};
-use evidence_law::limits::STEPS;
+use case_graphs::{LimitRefusal, case_graphs, prefix_case};
 use net_base::{Net, known_net};
 use policy_base::limits::ALTERNATIVES;
 use policy_base::{CaseList, Policy};
 use std::alloc::Global;
 
-// The cases take of one room in turn, as they do for the compiler: its loop keeps graphs and numbers, this one ranks alone.
 /// For each statement, by its number from 1, the ranks that permitted walks of its cases have, as the bits of a row; or which
 /// limit the first case passes that passes one. Row 0 and bit 0 stay clear.
 pub fn reached_ranks(
@@ -36,16 +33,14 @@ pub fn reached_ranks(
     ensures refused { IfErr result (IsRefused net.now (policy_of policy.now)) }
 {
     known_net(net);
+    let graphs = case_graphs(alloc, net, policy, cases)?;
     let rows = policy.statements().len() as u32 + 1;
     let mut ranks = Rows::new(alloc, rows, ALTERNATIVES as u32 + 1)?;
-    let mut room = STEPS as u32;
-    let mut kept = KeptAutomata::new(alloc, policy)?;
     let list = cases.cases.as_slice();
     for place in 0..list.len() {
-        let number = place as u32 + 1;
-        let given = case_within(alloc, net, policy, cases, number, room, &mut kept)?;
-        room -= given.used;
-        mark_ranks(&mut ranks, list[place].statement, given.graph.nodes());
+        let case = &list[place];
+        let graph = graphs.graph_for(&prefix_case(case));
+        mark_ranks(&mut ranks, case.statement, graph.nodes());
     }
     Ok(ranks)
 }

@@ -1,8 +1,10 @@
-use Rattle.std.proofs.Common.{rules, ◌≡◌, ◌+◌, ◌-◌, length, ap, ◌∙◌, arith}
+use Rattle.std.proofs.Common.{rules, ◌≡◌, ◌+◌, ◌-◌, length, Some, ap, ◌∙◌, arith}
+use Rattle.std.specs.Prelude.{if◌then◌else◌}
 use Rattle.indexmap.specs.IndexMap.{get}
 use Rattle.list_law.proofs.Exits.{passed_on}
 use Rattle.policy_base.specs.Cases.{case_list}
 use Rattle.policy_base.specs.Policies.{policy_of}
+use Rattle.compare_base.specs.declared.cases.PrefixCase.{PrefixCase}
 use Rattle.compare_base.specs.Same.{same_case}
 use Rattle.case_graphs.proofs.KeptGraphs.{graphs_all, graphs_more, none_yet}
 use Rattle.case_graphs.proofs.Placed.{placed}
@@ -49,7 +51,8 @@ loop-place-preserved c =
       gone = gone_more net policy c.loop-place.place c.loop-place.room (c.loop-place.room - given.used) built.0 before.gone built.1 (ap (λ n. c.loop-place.room - n) built.2);
       kept = c.in_ok-given.ensures.kept;
       graphs = graphs_more net policy c.loop-place.place c.loop-place.room is.statement case made.0 given.graph is.is (omega (arith, before.gone.left)) made.1
-          (get same_case c.loop-place.graphs) (get same_case c.keep.new.graphs) before.graphs ?;
+          (get same_case c.loop-place.graphs) (get same_case c.keep.new.graphs) before.graphs
+          (λ of. c.in_ok-keep.ensures of ∙ ap (λ (x : PrefixCase). if same_case x of then Some given.graph else get same_case c.loop-place.graphs of) c.prefix_case.ensures);
     }
 
 pub returns-clause-graphs : goal.returns-clause-graphs
