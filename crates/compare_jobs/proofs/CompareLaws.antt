@@ -1,5 +1,5 @@
 -- The job that compares two policies.
-use Rattle.std.proofs.Common.{◌≡◌, ◌≢◌, ◌⊎◌, ℕ, List, [], ◌∷◌, Ok, refl, sym, ap, ◌∙◌, inl, inr}
+use Rattle.std.proofs.Common.{◌≡◌, ◌≢◌, ℕ, List, [], ◌∷◌, Ok, refl, ap, ◌∙◌, inl, inr}
 use Rattle.net_base.specs.Network.{PlainNet}
 use Rattle.policy_base.specs.Policies.{PlainPolicy}
 use Rattle.policy_parser.specs.Spelled.{spelled as policy_spelled}
@@ -16,7 +16,7 @@ use Rattle.input_texts.specs.Texts.{OfRead}
 use Rattle.input_texts.proofs.Spelling.{at_read, of_read, read_form}
 use Rattle.comparison_maker.specs.declared.refusal.ComparisonRefusal.{ComparisonRefusal}
 use Rattle.comparison_maker.specs.declared.refusal.ComparisonRefusal.TheVariants.{Old, New, TooManySteps, NoMemory}
-use Rattle.comparison_maker.specs.Refusals.{AreComparable, IsRefusedFor}
+use Rattle.comparison_maker.specs.Refusals.{AreComparable}
 use Rattle.compare_jobs.specs.Compared.{IsCompared, IsPastLimit, SaysOfPair, SaysOfPolicies, SaysOfTexts, new_line, old_line}
 use Rattle.compare_jobs.specs.Refused.{IsOfCase, refusal_line}
 
