@@ -61,7 +61,7 @@ module _ (net : PlainNet) (old new : PlainPolicy) (all : List Pair) where
   one_more done xs room used left pair change before next is has within rest =
       let x : ComparedPair = record { pair = pair; change = change } in
       record {
-        pairs = map_push xs x ∙ ap (λ ys. ys ++ pair ∷ []) before.pairs;
+        pairs = map_push (λ (y : ComparedPair). y.pair) xs x ∙ ap (λ ys. ys ++ pair ∷ []) before.pairs;
         changes = λ y at. elim (IsIn-push_cases xs x y at) [
           | inl there ↦ before.changes y there
           | inr same ↦ subst (λ (z : ComparedPair). IsChangeFor net old new z.pair.cases z.change) same is

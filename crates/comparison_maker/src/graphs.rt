@@ -57,6 +57,32 @@ fn refusal_of_new(refusal: LimitRefusal) -> ComparisonRefusal
     }
 }
 
+// The graphs of the old policy's cases, or the refusal of a comparison.
+fn old_graphs(alloc: Global, net: &Net, old: &Policy) -> Result<CaseGraphs, ComparisonRefusal>
+    requires { IsPolicyOf net.now (policy_of old.now) }
+    ensures graphs { IfOk result (AreCaseGraphs net.now (policy_of old.now)) }
+    ensures within { OnOk result (AreAllWithin net.now (policy_of old.now)) }
+    ensures refused { IfErr result (λ e. (new : PlainPolicy) → IsRefusedFor net.now (policy_of old.now) new e) }
+{
+    match graphs_of(alloc, net, old) {
+        Ok(graphs) => Ok(graphs),
+        Err(refusal) => Err(refusal_of_old(refusal)),
+    }
+}
+
+// The graphs of the new policy's cases, or the refusal of a comparison with a policy whose cases are within the limits.
+fn new_graphs(alloc: Global, net: &Net, new: &Policy) -> Result<CaseGraphs, ComparisonRefusal>
+    requires { IsPolicyOf net.now (policy_of new.now) }
+    ensures graphs { IfOk result (AreCaseGraphs net.now (policy_of new.now)) }
+    ensures within { OnOk result (AreAllWithin net.now (policy_of new.now)) }
+    ensures refused { IfErr result (λ e. (old : PlainPolicy) → AreAllWithin net.now old → IsRefusedFor net.now old (policy_of new.now) e) }
+{
+    match graphs_of(alloc, net, new) {
+        Ok(graphs) => Ok(graphs),
+        Err(refusal) => Err(refusal_of_new(refusal)),
+    }
+}
+
 // The refusal of a comparison where a pair isn't compared.
 fn refusal_of_pair(cases: &CasePair, fault: PairFault) -> ComparisonRefusal
     ensures { result ≡ refusal_for cases.now fault }
@@ -90,9 +116,12 @@ impl BothGraphs {
         ensures refused { IfErr result (IsRefusedFor net.now (policy_of old.now) (policy_of new.now)) }
     {
         known_net(net);
-        let old = graphs_of(alloc, net, old).map_err(refusal_of_old)?;
-        let new = graphs_of(alloc, net, new).map_err(refusal_of_new)?;
-        Ok(BothGraphs { old, new })
+        let before = old_graphs(alloc, net, old)?;
+        let after = new_graphs(alloc, net, new)?;
+        Ok(BothGraphs {
+            old: before,
+            new: after,
+        })
     }
 
     /// What a pair of cases changes, with room for so many steps.

@@ -1,4 +1,4 @@
-use Rattle.std.proofs.Common.{◌≡◌, ◌-◌, [], ◌∷◌, ◌++◌, Some, List, length, map, refl, rules, subst, sym, ◌∙◌, map-id}
+use Rattle.std.proofs.Common.{◌≡◌, ◌-◌, [], ◌∷◌, ◌++◌, Some, List, length, refl, rules, subst, sym, ◌∙◌, map-id}
 use Rattle.std.specs.Prelude.{slice_get}
 use Rattle.std.proofs.lemmas.Iterator.Adapters.{YieldsList-from_vec}
 use Rattle.std.proofs.lemmas.Iterator.Consumers.{YieldsList-turn, YieldsList-end}
@@ -6,11 +6,13 @@ use Rattle.std.proofs.lemmas.Option.{slice_get_read}
 use Rattle.list_law.proofs.Exits.{passed_on}
 use Rattle.compare_base.specs.declared.pairs.Pair.{Pair}
 use Rattle.comparison.specs.declared.values.ComparedPair.{ComparedPair}
+use Rattle.comparison_maker.specs.declared.limits.TheConstants.{PAIR_STEPS}
 use Rattle.comparison_maker.proofs.Comparing.{AreComparedTo, none_yet, one_more, refused_next, whole, within_limit}
 use Rattle.comparison_maker.proofs.changes.compared_pairs.Goals as goal
 
 pub loop-pair-init : goal.loop-pair-init
-loop-pair-init c = λ old new both. none_yet c.args.net.now old new c.args.pairs
+loop-pair-init c = λ old new both.
+    subst (λ (xs : List ComparedPair). AreComparedTo c.args.net.now old new c.args.pairs [] xs PAIR_STEPS) (sym c.new-all.ensures) (none_yet c.args.net.now old new c.args.pairs)
 
 pub returns-in_err-given-clause-refused : goal.returns-in_err-given-clause-refused
 returns-in_err-given-clause-refused c = λ old new both are.
@@ -21,7 +23,7 @@ returns-in_err-given-clause-refused c = λ old new both are.
     let next : slice_get pairs (length done) ≡ Some c.in-Some.pair = slice_get_read pairs (length pairs) (length done) c.in-Some.pair refl here.0 here.1 in
     let why = refused_next c.args.net.now old new pairs c.args.graphs.now done c.loop-pair.all c.loop-pair.room c.in-Some.pair c.in_err-given.field-0.0 both are
     (c.loop-pair.invariant old new both) next (c.in_err-given.ensures.many old new both) in
-    rw (passed_on c.from_residual-in_err-given.result c.from_residual-in_err-given.ensures.1) why
+    rw (passed_on c.from_residual.result c.from_residual.ensures.1) why
 
 pub loop-pair-preserved : goal.loop-pair-preserved
 loop-pair-preserved c = λ old new both.

@@ -1,6 +1,4 @@
-use Rattle.std.proofs.Common.{◌≡◌, Err, subst, sym, ap}
-use Rattle.pair_graph.specs.declared.fault.PairFault.{PairFault}
-use Rattle.comparison_maker.specs.declared.refusal.ComparisonRefusal.{ComparisonRefusal}
+use Rattle.std.proofs.Common.{Err, subst, sym, ap}
 use Rattle.comparison_maker.specs.Compared.{IsRefusedAt}
 use Rattle.comparison_maker.proofs.Cases.{change_for, refused_for, steps_for}
 use Rattle.comparison_maker.proofs.graphs.BothGraphs.change_of.Goals as goal
