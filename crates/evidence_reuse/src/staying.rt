@@ -125,7 +125,13 @@ impl<'a> Beside<'a> {
     }
 
     // The old case of this class, as which the case at this place may stay, unless a later one may.
-    fn unless_later(&self, numbers: &[Option<usize>], place: usize, case: &CaseEvidence, was: usize) -> Option<&'a CaseEvidence>
+    fn unless_later(
+        &self,
+        numbers: &[Option<usize>],
+        place: usize,
+        case: &CaseEvidence,
+        was: usize,
+    ) -> Option<&'a CaseEvidence>
         requires numbers { AreNumbers self.now.cells.now self.now.olds.now self.now.compiled.now numbers.now }
         requires at { slice_get self.now.compiled.now place ≡ Some case.now }
         requires may { slice_get numbers.now place ≡ Some (Some was) }
