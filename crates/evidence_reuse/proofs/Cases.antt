@@ -1,5 +1,5 @@
 -- Reused cases, one by one.
-use Rattle.std.proofs.Common.{◌≡◌, ℕ, ◌+◌, ◌<◌, List, [], ◌∷◌, ◌++◌, map, length, Some, option_map, refl, sym, ap, ◌∙◌, subst, arith, inl, inr}
+use Rattle.std.proofs.Common.{◌≡◌, ℕ, ◌+◌, List, [], ◌∷◌, ◌++◌, map, length, Some, option_map, refl, sym, ap, ◌∙◌, subst, arith, inl, inr}
 use Rattle.std.specs.Prelude.{slice_get}
 use Rattle.std.proofs.lemmas.Bool.{cases_lt}
 use Rattle.std.proofs.lemmas.List.{length-append, length-map}
@@ -12,7 +12,7 @@ use Rattle.evidence_base.specs.Made.{PlainCaseEvidence, patterns_of}
 use Rattle.stage_classes.specs.declared.cell.Cell.{Cell}
 use Rattle.evidence_renewal.specs.Renewed.{AreRenewedCases, IsRenewedCase, raised}
 use Rattle.evidence_renewal.proofs.Cases.{renewed_forth, same_cases}
-use Rattle.evidence_reuse.specs.Reused.{AreForEach, AreReused, IsReusedCase, classes_of, with_marks}
+use Rattle.evidence_reuse.specs.Reused.{AreForEach, AreReused, IsReusedCase, classes_of}
 use Rattle.evidence_reuse.specs.Staying.{rise}
 use Rattle.evidence_reuse.proofs.Rising.{are_raised-is}
 

@@ -1,15 +1,13 @@
 -- A configuration can be made of reused cases.
-use Rattle.std.proofs.Common.{◌≡◌, List, length, map, ap, sym, ◌∙◌, subst}
-use Rattle.std.proofs.lemmas.List.{length-map}
+use Rattle.std.proofs.Common.{◌≡◌, List, map, sym, ◌∙◌, subst}
 use Rattle.net_base.specs.Network.{IsNet, PlainNet}
-use Rattle.net_base.specs.Prefixes.{PlainPattern}
 use Rattle.policy_base.specs.CaseNumbers.{OriginsAreRouters}
 use Rattle.policy_base.specs.Policies.{IsPolicy, PlainPolicy}
 use Rattle.config_base.specs.Configs.{PlainConfig}
 use Rattle.stage_classes.specs.declared.cell.Cell.{Cell}
 use Rattle.config_maker.specs.Conditions.{AreClasses, AreSingle, IsSingle}
 use Rattle.config_maker.proofs.CaseClasses.{case_lists}
-use Rattle.evidence_base.specs.Made.{PlainCaseEvidence, patterns_of}
+use Rattle.evidence_base.specs.Made.{PlainCaseEvidence}
 use Rattle.free_tags.specs.Taken.{greatest, prefs_in}
 use Rattle.compile_core.specs.Compiling.{IsEvidenceOfMade}
 use Rattle.compile_core.proofs.Configured as compiled_configs
@@ -20,7 +18,7 @@ use Rattle.evidence_renewal.proofs.Cases.{same_cases}
 use Rattle.evidence_reuse.specs.declared.fault.ReuseFault.{ReuseFault}
 use Rattle.evidence_reuse.specs.declared.fault.ReuseFault.TheVariants.{NoMemory, OtherEvidence, PrefsRunOut}
 use Rattle.evidence_reuse.specs.Reused.{AreReused, IsFault, IsReusedEvidence, IsStop, classes_of, of_renewal, pairs_with}
-use Rattle.evidence_reuse.proofs.Cases.{alike_at, for_each, same_classes, same_list}
+use Rattle.evidence_reuse.proofs.Cases.{alike_at, same_classes, same_list}
 
 module _ (net : PlainNet) (policy : PlainPolicy) (old : PlainConfig) (olds ds : List PlainCaseEvidence) (is : IsReusedEvidence net policy old olds ds) where
   same : map (λ (d : PlainCaseEvidence). d.case) ds ≡ map (λ (c : PlainCaseEvidence). c.case) is.compiled

@@ -1,10 +1,10 @@
 -- The numbers of old classes as which cases may stay, and which cases stay by that.
-use Rattle.std.proofs.Common.{◌≡◌, ℕ, ◌+◌, ◌-◌, ◌<◌, zero, suc, Bool, true, false, List, [], ◌∷◌, ◌++◌, length, drop, Option, Some, None, refl, sym, ap, ◌∙◌, subst, arith, inl, inr}
-use Rattle.std.specs.Prelude.{slice_get}
+use Rattle.std.proofs.Common.{◌≡◌, ℕ, ◌+◌, ◌-◌, ◌<◌, zero, suc, true, false, List, [], ◌∷◌, ◌++◌, length, get_or, drop, is_some, nat_lt, Option, Some, None, IfSome, IfNone, Bor, refl, sym, ap, ◌∙◌, subst, arith, inl, inr}
+use Rattle.std.specs.Prelude.{slice_get, slice_range}
 use Rattle.std.specs.List.{list_any}
-use Rattle.std.proofs.lemmas.Bool.{cases_lt, eq-eqb, eqb-true, false≢true, true≢false}
-use Rattle.std.proofs.lemmas.List.{length-append}
-use Rattle.std.proofs.lemmas.Option.{same_Some, slice_get_past, slice_get_within}
+use Rattle.std.proofs.lemmas.Bool.{cases_lt, eq-eqb, eqb-true, false≢true, ltb-false, ltb-true, true≢false}
+use Rattle.std.proofs.lemmas.List.{length-append, length-drop, take_all}
+use Rattle.std.proofs.lemmas.Option.{same_Some, slice_get_past, slice_get_read, slice_get_within}
 use Rattle.list_law.proofs.Each.{AllByRecursion-from_list_any, AllByRecursion_at}
 use Rattle.list_law.proofs.Items.{from_front, same_item, slice_get-there, slice_get_inside}
 use Rattle.list_law.proofs.Tests.{list_any_parts}
@@ -19,6 +19,10 @@ from_rest : {A : Type 0} (n : ℕ) (xs : List A) (i : ℕ) → slice_get (drop n
 from_rest zero xs i = let same : i ≡ 0 + i = omega arith in ap (slice_get xs) same
 from_rest (suc n) [] i = slice_get_past [] i (omega arith) ∙ sym (slice_get_past [] (suc n + i) (omega arith))
 from_rest (suc n) (x ∷ xs) i = let same : suc (n + i) ≡ suc n + i = omega arith in from_rest n xs i ∙ ap (slice_get (x ∷ xs)) same
+
+-- it is a slice up to the end
+pub to_end : {A : Type 0} (xs : List A) (n : ℕ) → drop n xs ≡ slice_range xs n (length xs)
+to_end xs n = sym (take_all (length xs - n) (drop n xs) (omega (arith, length-drop n xs)))
 
 module _ (was : ℕ) (ns : List (Option ℕ)) (place : ℕ) where
   none_later : list_any (is_number was) (drop (place + 1) ns) ≡ false → (k : ℕ) → place < k → slice_get ns k ≡ Some (Some was) → ⊥
@@ -130,3 +134,16 @@ module _ (between : List Cell) (olds : List PlainCaseEvidence) where
           let m = are.each place c (Some was) here at in
           let clash : None ≡ Some m.0 = sym none ∙ m.1.at in
           cc
+
+      -- the old case that is got at this place, if there is one
+      module _ (was j : ℕ) (at : slice_get ns place ≡ Some (Some was)) (is : j ≡ was - 1) where
+        pub stays_got : (r : Option (Bor PlainCaseEvidence)) → is_some r ≡ nat_lt j (length olds) → IfSome r (λ e. e.now ≡ get_or olds j e.now)
+            → list_any (is_number was) (drop (place + 1) ns) ≡ false → IfSome r (λ e. Stays between olds cs place c e.now)
+        stays_got None lies read none = tt
+        stays_got (Some e) lies read none =
+            let within : j < length olds = ltb-true j (length olds) (sym lies) in
+            stays_by was e.now at none (ap (slice_get olds) (sym is) ∙ slice_get_read olds (length olds) j e.now refl within read)
+
+        pub never_lost : (r : Option (Bor PlainCaseEvidence)) → is_some r ≡ nat_lt j (length olds) → IfNone r ((e : PlainCaseEvidence) → Stays between olds cs place c e → ⊥)
+        never_lost None lies = absurd (never_missing was at (ap (slice_get olds) (sym is) ∙ slice_get_past olds j (ltb-false j (length olds) (sym lies))))
+        never_lost (Some e) lies = tt

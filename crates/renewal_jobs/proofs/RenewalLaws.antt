@@ -1,5 +1,5 @@
 -- The job that renews.
-use Rattle.std.proofs.Common.{◌≡◌, ◌≢◌, ℕ, List, [], ◌∷◌, Ok, refl, subst}
+use Rattle.std.proofs.Common.{◌≡◌, ◌≢◌, ℕ, List, [], ◌∷◌, refl, subst}
 use Rattle.net_base.specs.Network.{PlainNet, IsNet}
 use Rattle.policy_base.specs.Policies.{IsPolicyOf, PlainPolicy}
 use Rattle.config_base.specs.Configs.{PlainConfig}

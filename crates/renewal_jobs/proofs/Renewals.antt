@@ -1,5 +1,5 @@
 -- What is said of an old configuration and a policy: the text of a renewal, or why there is none.
-use Rattle.std.proofs.Common.{◌≡◌, ℕ, ◌<◌, ◌^◌, inl, inr, List, refl, sym, ap, ◌∙◌, subst, arith}
+use Rattle.std.proofs.Common.{◌≡◌, ℕ, ◌<◌, ◌^◌, inl, inr, List, sym, ap, ◌∙◌, subst, arith}
 use Rattle.list_law.proofs.Members.{AllByRecursion-IsIn}
 use Rattle.net_base.specs.declared.numbers.Tag.{Tag}
 use Rattle.net_base.specs.Network.{PlainNet}
@@ -21,7 +21,7 @@ use Rattle.refusal_lines.specs.RefusalLines.{refusal_line}
 use Rattle.run_base.specs.declared.outcome.Status.TheVariants.{Refused}
 use Rattle.run_base.specs.Said.{Said, text, line}
 use Rattle.run_base.proofs.Jobs.{IsJobSaid, in_text, in_refusal}
-use Rattle.renewal_jobs.specs.Renewing.{PrefsRunOut, SaysOfOld, run_out_line, top_of}
+use Rattle.renewal_jobs.specs.Renewing.{PrefsRunOut, SaysOfOld}
 
 -- ---- where evidence is renewed, preferences don't run out
 

@@ -1,5 +1,5 @@
 -- On the way a network comes to rest, in two layers.
-use Rattle.std.proofs.Common.{◌≡◌, ℕ, sym, subst}
+use Rattle.std.proofs.Common.{ℕ, sym, subst}
 use Rattle.net_base.specs.Network.{PlainNet}
 use Rattle.net_base.specs.Prefixes.{PlainPrefix, IsPrefix}
 use Rattle.rollout_base.specs.Mixtures.{Mixture, Part}

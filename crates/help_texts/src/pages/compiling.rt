@@ -176,7 +176,7 @@ writes
 
 status
   0  the configuration is written
-  1  the policy is refused, preferences run out, or EVIDENCE is another's
+  1  the policy is refused, preferences run out, or EVIDENCE lets none take over
   3  an input is too long, or no text of its kind
   4  an input cannot be read
   5  the output, or the line, cannot be written whole
@@ -207,7 +207,7 @@ writes
 
 status
   0  the evidence is written
-  1  the policy is refused, preferences run out, or EVIDENCE is another's
+  1  the policy is refused, preferences run out, or EVIDENCE lets none take over
   3  an input is too long, or no text of its kind
   4  an input cannot be read
   5  the output, or the line, cannot be written whole

@@ -1,4 +1,4 @@
-use Rattle.std.proofs.Common.{List, ◌∙◌, length, map, ap, sym, subst}
+use Rattle.std.proofs.Common.{List, ◌∙◌, map, ap, sym, subst}
 use Rattle.list_law.proofs.Exits.{passed_on}
 use Rattle.net_base.specs.Prefixes.{PlainPattern}
 use Rattle.policy_base.specs.Policies.{policy_of}
