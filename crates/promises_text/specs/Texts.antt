@@ -173,8 +173,14 @@ open_line parts c = line_of (codes "open") (drop 1 (flat_map (own_part c.number)
 
 -- ---- ranks that no source has both of
 
+unfoldable pub last_rank : ℕ → List ℕ
+last_rank worse = codes " " ++ decimal worse ++ codes "\n"
+
+unfoldable pub two_ranks : ℕ → ℕ → List ℕ
+two_ranks better worse = codes " alternatives " ++ decimal better ++ last_rank worse
+
 unfoldable pub apart_line : ApartRanks → List ℕ
-apart_line x = codes "apart statement " ++ decimal x.statement ++ codes " alternatives " ++ decimal x.better ++ codes " " ++ decimal x.worse ++ codes "\n"
+apart_line x = codes "apart statement " ++ decimal x.statement ++ two_ranks x.better x.worse
 
 -- ---- the whole
 

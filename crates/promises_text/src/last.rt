@@ -8,7 +8,9 @@ ghost use Rattle.promises_text.specs.Texts.{
   count_line,
   is_uncarried as is_uncarried_by,
   kinds_text,
+  last_rank,
   places_text,
+  two_ranks,
   uncarried_prefix,
 };
 
@@ -55,15 +57,34 @@ fn push_kinds(text: &mut Vec<u8>, counts: Counts) -> Result<(), NoMemory>
     push_count(text, b" unused ", counts.unused)
 }
 
+// Adds the second of two ranks.
+#[tactic(auto, unfolding(crate::specs::Texts::last_rank))]
+fn push_last_rank(text: &mut Vec<u8>, worse: u32) -> Result<(), NoMemory>
+    ensures { OnOk result (text.new.items ≡ text.old.items ++ last_rank worse) }
+{
+    push_bytes(text, b" ")?;
+    push_number(text, u64::from(worse))?;
+    push_bytes(text, b"\n")
+}
+
+// Adds two ranks.
+#[tactic(auto, unfolding(crate::specs::Texts::two_ranks))]
+fn push_ranks(text: &mut Vec<u8>, better: u32, worse: u32) -> Result<(), NoMemory>
+    ensures { OnOk result (text.new.items ≡ text.old.items ++ two_ranks better worse) }
+{
+    push_bytes(text, b" alternatives ")?;
+    push_number(text, u64::from(better))?;
+    push_last_rank(text, worse)
+}
+
 // Adds the line of two ranks that no source has both of.
 #[tactic(auto, unfolding(crate::specs::Texts::apart_line))]
-fn push_apart(text: &mut Vec<u8>, pair: ApartRanks) -> Result<(), NoMemory>
-    ensures { OnOk result (text.new.items ≡ text.old.items ++ apart_line pair) }
+fn push_apart(text: &mut Vec<u8>, pair: &ApartRanks) -> Result<(), NoMemory>
+    ensures { OnOk result (text.new.items ≡ text.old.items ++ apart_line pair.now) }
 {
-    push_count(text, b"apart statement ", u64::from(pair.statement))?;
-    push_count(text, b" alternatives ", u64::from(pair.better))?;
-    push_count(text, b" ", u64::from(pair.worse))?;
-    push_bytes(text, b"\n")
+    push_bytes(text, b"apart statement ")?;
+    push_number(text, u64::from(pair.statement))?;
+    push_ranks(text, pair.better, pair.worse)
 }
 
 /// Adds the lines of ranks that no source has both of.
@@ -71,7 +92,7 @@ pub fn push_all_apart(text: &mut Vec<u8>, pairs: &[ApartRanks]) -> Result<(), No
     ensures { OnOk result (text.new.items ≡ text.old.items ++ flat_map apart_line pairs.now) }
 {
     for pair in pairs {
-        push_apart(text, *pair)?;
+        push_apart(text, pair)?;
     }
     Ok(())
 }
