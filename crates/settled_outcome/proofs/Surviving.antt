@@ -1,7 +1,6 @@
 -- What is left of a graph by the tables is what the failures leave.
-use Rattle.std.proofs.Common.{◌≡◌, ℕ, ◌<◌, Bool, true, false, List, [], ◌∷◌, length, refl, sym, ap, ◌∙◌, inl, inr}
+use Rattle.std.proofs.Common.{◌≡◌, ℕ, ◌<◌, Bool, true, false, List, [], ◌∷◌, length, refl, sym, ap, ◌∙◌, inl, inr, arith}
 use Rattle.std.specs.Prelude.{◌&&◌, ◌==◌, not, filter, IsTrue}
-use Rattle.std.specs.List.{AllByRecursion}
 use Rattle.std.proofs.lemmas.Bool.{and_parts, cases_Bool, eqb-true, and_right}
 use Rattle.std.proofs.lemmas.Map.Views.{any-filter_same}
 use Rattle.std.proofs.Math.Bool.{and_comm, and-false}
@@ -15,7 +14,9 @@ use Rattle.outcome_base.specs.Outcomes.{Failures, is_dead}
 use Rattle.scenarios.specs.Surviving.{AreSurvivors, carries, carries_by}
 use Rattle.scenarios.specs.declared.survivors.Survivors.{Survivors}
 use Rattle.scenarios.proofs.Survived.{carries_is}
-use Rattle.settled_outcome.specs.Surviving.{chooses_by, left_by, lives_by, steps_by}
+use Rattle.list_law.proofs.Each.{AllByRecursion-filter}
+use Rattle.list_law.proofs.Changed.{filter_same}
+use Rattle.settled_outcome.specs.Surviving.{chooses_by, left_by, left_under, lives_by, steps_by}
 
 module _ (net : PlainNet) (f : Failures) (s : Survivors) (are : AreSurvivors net f s) where
   pub starts_are : (g : PlainGraph) (n : ℕ) → is_start (left_by net s g) n ≡ (is_start g n && not (is_dead f (place_of g n)))
@@ -35,6 +36,13 @@ module _ (net : PlainNet) (f : Failures) (s : Survivors) (are : AreSurvivors net
           ∙ ap (λ k. carries_by net s (place_of g m) (place_of g k)) (eqb-true e.1 n parts.1)
           ∙ carries_is net f s are (place_of g m) (place_of g n)
 
+  -- by the failures the same is left
+  pub left_is_under : (g : PlainGraph) → left_by net s g ≡ left_under net f g
+  left_is_under g =
+      let starts = filter_same (lives_by s g) (λ n. not (is_dead f (place_of g n))) g.starts (λ n at. ap not (are.dead (place_of g n))) in
+      let steps = filter_same (steps_by net s g) (λ e. carries net f (place_of g e.0) (place_of g e.1)) g.steps (λ e at. carries_is net f s are (place_of g e.0) (place_of g e.1)) in
+      λ i. record { nodes = g.nodes; starts = starts i; steps = steps i }
+
 -- a start that is left was one
 start_was : (net : PlainNet) (s : Survivors) (g : PlainGraph) (n : ℕ) → is_start (left_by net s g) n ≡ true → is_start g n ≡ true
 start_was net s g n h =
@@ -47,22 +55,17 @@ starts_choose_not net s g origins at n start =
     ap (λ o. is_router net (place_of g n) && (not (holds s.dead (place_of g n)) && not o)) (at n (start_was net s g n start))
     ∙ and_right (is_router net (place_of g n)) _ (and-false (not (holds s.dead (place_of g n))))
 
--- what passes a test is what was there
-kept_all : {A : Type 0} (P : A → Type 0) (test : A → Bool) (xs : List A) → AllByRecursion P xs → AllByRecursion P (filter test xs)
-kept_all P test [] all = tt
-kept_all P test (x ∷ xs) all = by (test x) refl (kept_all P test xs all.1)
-  where
-    by : (b : Bool) → test x ≡ b → AllByRecursion P (filter test xs) → AllByRecursion P (filter test (x ∷ xs))
-    by true e rest = rw e (all.0, rest)
-    by false e rest = rw e rest
-
 -- the part of a graph that is left is a graph
 pub left_is_graph : (net : PlainNet) (s : Survivors) (g : PlainGraph) → IsGraph g → IsGraph (left_by net s g)
 left_is_graph net s g rules = record {
   count = rules.count;
-  starts = kept_all (λ n. n < length g.nodes) (lives_by s g) g.starts rules.starts;
-  steps = kept_all (λ (e : ℕ × ℕ). (e.0 < length g.nodes) × (e.1 < length g.nodes)) (steps_by net s g) g.steps rules.steps;
+  starts = AllByRecursion-filter (λ n. n < length g.nodes) (lives_by s g) g.starts rules.starts;
+  steps = AllByRecursion-filter (λ (e : ℕ × ℕ). (e.0 < length g.nodes) × (e.1 < length g.nodes)) (steps_by net s g) g.steps rules.steps;
 }
+
+-- so is that without nodes
+pub empty_is_graph : IsGraph (record { nodes = []; starts = []; steps = [] })
+empty_is_graph = record { count = omega arith; starts = tt; steps = tt }
 
 -- a router is a location that is no peer
 pub routers_are : (net : PlainNet) (l : ℕ) → (is_location net l && not (is_peer net l)) ≡ is_router net l

@@ -16,7 +16,9 @@ use Rattle.settled_graph.specs.Grounds.{IsGround, held_in}
 use Rattle.settled_graph.specs.declared.settled.Settled.{Settled}
 use Rattle.routing_law.specs.Outcome.{FullyStable, Setup}
 use Rattle.scenarios.specs.declared.survivors.Survivors.{Survivors}
-use Rattle.settled_outcome.specs.Surviving.{chooses_by, left_by}
+use Rattle.graph_base.specs.Graphs.{PlainGraph}
+use Rattle.outcome_base.specs.Outcomes.{Failures}
+use Rattle.settled_outcome.specs.Surviving.{chooses_by, left_by, left_under}
 
 -- the case of a prefix's class
 abbrev pub case_of : PlainConfig → List PlainCaseEvidence → PlainPrefix → Option PlainCaseEvidence
@@ -49,3 +51,7 @@ pub record AreSettled (net : PlainNet) (s : Survivors) (origins : LocSet) (c : P
   pub choose : (l : ℕ) → holds choosers l ≡ chooses_by net s origins l
   pub stable : (w : Setup) → IsGround net (left_by net s c.graph) c.numbers choosers w → FullyStable w (held_in settled)
   pub each : (r : ℕ) → r < length net.routers → entry_at routes r ≡ option_map (tagged c) (entry_at settled r)
+
+-- where the prefix has a case, the graph is what failures leave of the case's
+abbrev pub IsOpen : PlainNet → PlainConfig → List PlainCaseEvidence → Failures → PlainPrefix → PlainGraph → Type 0
+IsOpen net config cs f p left = (c : PlainCaseEvidence) → case_of config cs p ≡ Some c → left ≡ left_under net f c.graph

@@ -10,10 +10,10 @@
 //! That these are the routes of the lines is proved, by the way from the graph to the configuration (`settled_law`). So no configuration
 //! need be made.
 //!
-//! `settle_left` is for callers that have looked up already what fails: a scenario's lists may name one link many times, and the look-up
-//! goes over them once.
+//! `open_case` and `settle_open` are these two steps, for callers that have looked up already what fails, or that leave out more of a
+//! graph that is open: who cuts one link after another then needn't look at each step anew.
 //!
-//! `replay`, `drain`, `whatif`, `multipath` and `promises` alone need it.
+//! What replays, drains and cuts failures, and what tells promises, needs it.
 //!
 //! It knows nothing of the compiler and texts.
 #![tactic(auto)]
@@ -22,4 +22,4 @@ mod left;
 mod outcome;
 
 pub use left::open_graph;
-pub use outcome::{settle, settle_left};
+pub use outcome::{open_case, settle, settle_open};

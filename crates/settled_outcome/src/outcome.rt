@@ -9,9 +9,10 @@ ghost use Rattle.policy_base.specs.Policies.{IsPolicyOf, policy_of};
 ghost use Rattle.evidence_law.specs.Passes.{Passes};
 ghost use Rattle.outcome_base.specs.Outcomes.{Failures};
 ghost use Rattle.settled_law.specs.Settled.{IsFullyStable};
-ghost use Rattle.settled_outcome.specs.Outcomes.{AreSettled, held_by, own_tag as tag_of_own, started_route, tagged as with_tag};
+ghost use Rattle.settled_outcome.specs.Outcomes.{AreSettled, IsOpen, held_by, own_tag as tag_of_own, started_route, tagged as with_tag};
 ghost use Rattle.scenarios.specs.Scenarios.{failures_of};
 ghost use Rattle.scenarios.specs.Surviving.{AreSurvivors};
+ghost use Rattle.settled_outcome.specs.Surviving.{left_by};
 
 use crate::left::{choosers, open_graph};
 use config_base::{NO_TAG, Route};
@@ -70,21 +71,25 @@ fn tagged_each(
     Ok(routes)
 }
 
-// The routes of the routers in the graph of a case, where its live origins announce the prefix.
+// The routes of the routers in what is left of the graph of a case, where its live origins announce the prefix.
 fn case_routes(
     alloc: Global,
     net: &Net,
     case: &CaseEvidence,
+    left: Graph,
     survivors: &Survivors,
     origins: &LocSet,
 ) -> Result<Vec<Option<Route>>, NoMemory>
-    requires { (s : ℕ) → IsTrue (is_start case.now.graph s) → IsTrue (holds origins.now (place_of case.now.graph s)) }
+    requires starts { (s : ℕ) → IsTrue (is_start case.now.graph s) → IsTrue (holds origins.now (place_of case.now.graph s)) }
+    requires left { left ≡ left_by net.now survivors.now case.now.graph }
     ensures size { IfOk result (λ routes. length routes.items ≡ length net.now.routers) }
     ensures settled { IfOk result (λ routes. AreSettled net.now survivors.now origins.now case.now routes.items) }
 {
-    let open = open_graph(alloc, net, survivors, case.graph())?;
+    // What is left has all nodes, so there is a number for each.
+    let count = case.graph().nodes().len();
+    prove!(left.nodes().len() == count);
     let choosers = choosers(net, survivors, origins);
-    let settled = settle_graph(alloc, net, &open, case.prefs(), &choosers)?;
+    let settled = settle_graph(alloc, net, &left, case.prefs(), &choosers)?;
     let routes = tagged_each(alloc, net.routers().len(), case, &settled)?;
     Ok(routes)
 }
@@ -171,20 +176,49 @@ fn with_origins(
     Ok(routes)
 }
 
-/// The settled outcome of a prefix, by what failures leave: it is stable, and each router that isn't an origin holds the first of all
-/// routes that it is given, by preference, then by the fewest AS numbers, then by the lowest identifier of the neighbour (RFC 4271,
-/// 9.1.2.2). There is one such outcome: `settled_law::settled_outcomes_are_one`. It is that of the configuration that is made of the
-/// evidence, which is not needed for it.
-pub fn settle_left(
+// A graph without nodes.
+fn no_graph(alloc: Global) -> Graph {
+    let nodes = List::new(alloc);
+    let starts = List::new(alloc);
+    let steps = List::new(alloc);
+    Graph::new(nodes, starts, steps)
+}
+
+/// What failures leave of the graph of a prefix's case, or a graph without nodes where the prefix has no case.
+pub fn open_case(
     alloc: Global,
     net: &Net,
     policy: &Policy,
     evidence: &Evidence,
     survivors: &Survivors,
     prefix: Prefix,
+) -> Result<Graph, AllocError>
+    requires fits { IsPolicyOf net.now (policy_of policy.now) }
+    ensures { IfOk result (λ left. (config : PlainConfig) → Passes net.now (policy_of policy.now) config evidence.now.cases
+        → (f : Failures) → AreSurvivors net.now f survivors.now → IsOpen net.now config evidence.now.cases f prefix left) }
+{
+    match case_of(policy, evidence, prefix) {
+        None => Ok(no_graph(alloc)),
+        Some(case) => open_graph(alloc, net, survivors, case.graph()),
+    }
+}
+
+/// The settled outcome of a prefix, by what failures leave of the network, and of the graph of the prefix's case: it is stable, and each
+/// router that isn't an origin holds the first of all routes that it is given, by preference, then by the fewest AS numbers, then by the
+/// lowest identifier of the neighbour (RFC 4271, 9.1.2.2). There is one such outcome: `settled_law::settled_outcomes_are_one`. It is that
+/// of the configuration that is made of the evidence, which is not needed for it.
+pub fn settle_open(
+    alloc: Global,
+    net: &Net,
+    policy: &Policy,
+    evidence: &Evidence,
+    survivors: &Survivors,
+    left: Graph,
+    prefix: Prefix,
 ) -> Result<Outcome, NoMemory>
     requires fits { IsPolicyOf net.now (policy_of policy.now) }
-    requires passes { (config : PlainConfig) × Passes net.now (policy_of policy.now) config evidence.now.cases }
+    requires passes { (config : PlainConfig) × Passes net.now (policy_of policy.now) config evidence.now.cases
+        × ((f : Failures) × AreSurvivors net.now f survivors.now × IsOpen net.now config evidence.now.cases f prefix left) }
     ensures size { IfOk result (λ outcome. length outcome.routes ≡ length net.now.routers) }
     ensures settled { IfOk result (λ outcome. (config : PlainConfig) → Passes net.now (policy_of policy.now) config evidence.now.cases
         → (f : Failures) → AreSurvivors net.now f survivors.now → IsFullyStable net.now (policy_of policy.now) config f prefix outcome.routes) }
@@ -195,7 +229,7 @@ pub fn settle_left(
     let case = case_of(policy, evidence, prefix);
     let others = match case {
         None => no_routes(alloc, net.routers().len())?,
-        Some(case) => case_routes(alloc, net, case, survivors, &origins)?,
+        Some(case) => case_routes(alloc, net, case, left, survivors, &origins)?,
     };
     let routes = with_origins(alloc, net, case, survivors, &origins, others)?;
     Ok(Outcome {
@@ -218,5 +252,14 @@ pub fn settle(
         → IsFullyStable net.now (policy_of policy.now) config (failures_of scenario.now) scenario.now.prefix outcome.routes) }
 {
     let survivors = Survivors::new(net, scenario);
-    settle_left(alloc, net, policy, evidence, &survivors, scenario.prefix)
+    let left = open_case(alloc, net, policy, evidence, &survivors, scenario.prefix)?;
+    settle_open(
+        alloc,
+        net,
+        policy,
+        evidence,
+        &survivors,
+        left,
+        scenario.prefix,
+    )
 }

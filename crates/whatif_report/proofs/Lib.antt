@@ -8,6 +8,7 @@ pub mod Gifts
 pub mod Living
 pub mod Marking
 pub mod Members
+pub mod Opening
 pub mod OneWhatIf
 pub mod StandIn
 pub mod Staying

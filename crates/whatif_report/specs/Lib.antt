@@ -3,3 +3,4 @@ pub mod Cutting
 pub mod Moves
 pub mod Settling
 pub mod Shifting
+pub mod Opened

@@ -6,6 +6,7 @@ use Rattle.outcome_base.specs.Outcomes.{Failures, Outcome}
 use Rattle.scenarios.specs.Scenarios.{failures_of}
 use Rattle.scenarios.specs.Situations.{IsSituation}
 use Rattle.scenarios.specs.declared.situation.Situation.{Situation}
+use Rattle.settled_outcome.specs.Outcomes.{IsOpen}
 use Rattle.impact_law.specs.Cuts.{with_cut}
 use Rattle.impact_law.specs.declared.impact.Cut.{Cut}
 use Rattle.impact_law.specs.declared.impact.CutRow.{CutRow}
@@ -18,12 +19,13 @@ use Rattle.whatif_report.specs.declared.settled.SettledNet.{SettledNet}
 abbrev pub Settles : Situation → Failures → Outcome → Type 0
 Settles s f outcome = IsSettledOutcome s.net.now (policy_of s.policy.now) s.config.now f s.scenario.now.prefix outcome
 
--- The evidence passes for its configuration, under which it has settled to its outcome.
+-- The evidence passes for its configuration, under which it has settled to its outcome, and the graph is what failures leave of the case's.
 pub record IsSettledNet (s : SettledNet) : Type 0 where
   pub situation : IsSituation s.situation.now
   pub fits : IsPolicyOf s.situation.now.net.now (policy_of s.situation.now.policy.now)
   pub passes : Passes s.situation.now.net.now (policy_of s.situation.now.policy.now) s.situation.now.config.now s.evidence.now.cases
   pub settled : Settles s.situation.now (failures_of s.situation.now.scenario.now) s.situation.now.outcome.now.routes
+  pub left : IsOpen s.situation.now.net.now s.situation.now.config.now s.evidence.now.cases (failures_of s.situation.now.scenario.now) s.situation.now.scenario.now.prefix s.left
 
 -- whom a cut moves, if this is the outcome after it
 abbrev pub moves_in : Situation → Cut → Outcome → Moves

@@ -4,7 +4,8 @@
 //! A cut is a link or a router that is dead, too. What it changes of best ranks `impact_report` tells. Whom it moves is asked of what the
 //! network settles to with it (`settled`): which routers hold another route then (`moving`), and which have another multipath set
 //! (`shifting`). A cut over which no other router's route goes moves no route, so nothing is settled for it: each route stays as it is, and
-//! sets lose those to which links are dead.
+//! sets lose those to which links are dead. For any other the network settles anew, in the part of the case's graph that the failures leave:
+//! that is found once, and each cut takes its own starts and steps from it (`opened`).
 //!
 //! Most cuts move few routers. A multipath set depends on what its router and the router's neighbours hold, and on the links between them. So only
 //! links that are cut, or of which an end holds another route, are looked at (`links`), and for these it is asked of both outcomes who is a
@@ -17,8 +18,6 @@
 //! moves is no law of its own: it is shown for what a neighbour gives (`proofs/Gifts`). A reader begins with `what_if` and
 //! `what_ifs_are_one`.
 //!
-//! `whatif` alone needs it.
-//!
 //! It knows nothing of the compiler or of texts.
 #![tactic(auto)]
 
@@ -26,6 +25,7 @@ mod cut;
 mod laws;
 mod links;
 mod moving;
+mod opened;
 mod report;
 mod settled;
 mod shifting;

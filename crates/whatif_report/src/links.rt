@@ -8,8 +8,8 @@ use impact_law::Cut;
 use net_base::{List, Loc, LocSet, Net};
 use std::alloc::{AllocError, Global};
 
-// Whether a link or an end of it is cut.
-fn is_over(cut: &Cut, link: (Loc, Loc)) -> bool
+/// Whether a link or an end of it is cut.
+pub(crate) fn is_over(cut: &Cut, link: (Loc, Loc)) -> bool
     ensures { result ≡ over_link cut.now link.0 link.1 }
 {
     match cut {

@@ -14,7 +14,8 @@ use impact_law::{CutRow, Moves, WhatIf};
 use impact_report::impact;
 use input_output::NoMemory;
 use net_base::{List, known_net, known_prefix};
-use scenarios::Situation;
+use scenarios::{Situation, Survivors};
+use settled_outcome::open_case;
 use std::alloc::Global;
 
 // Whom the cut of each row moves.
@@ -59,9 +60,19 @@ pub fn what_if(
         evidence,
         situation.scenario,
     )?;
+    let survivors = Survivors::new(situation.net, situation.scenario);
+    let left = open_case(
+        alloc,
+        situation.net,
+        situation.policy,
+        evidence,
+        &survivors,
+        situation.scenario.prefix,
+    )?;
     let settled = SettledNet {
         situation,
         evidence,
+        left,
     };
     let moves = moves_of(alloc, &settled, impact.rows.as_slice())?;
     Ok(WhatIf { impact, moves })

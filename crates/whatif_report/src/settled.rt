@@ -2,20 +2,24 @@
 use crate::cut::with_cut;
 use crate::links::touched_links;
 use crate::moving::{count_routers, is_off_routes, moved_routers};
+use crate::opened::without_cut;
 use crate::shifting::Change;
 use evidence_base::Evidence;
+use graph_base::Graph;
 use impact_law::{Cut, Moves};
 use input_output::NoMemory;
 use net_base::{LocSet, known_net, known_prefix};
 use scenarios::{Scenario, Situation, Survivors};
-use settled_outcome::settle_left;
+use settled_outcome::settle_open;
 use std::alloc::Global;
 
-/// The outcome to which a network settles under a scenario, with the evidence for its configuration.
+/// The outcome to which a network settles under a scenario, with the evidence for its configuration, and what failures leave of the graph of
+/// the prefix's case: a cut takes its steps from that.
 #[derive(Drop)]
 pub(crate) struct SettledNet<'t, 's> {
     pub(crate) situation: &'t Situation<'s>,
     pub(crate) evidence: &'t Evidence,
+    pub(crate) left: Graph,
 }
 
 impl SettledNet<'_, '_> {
@@ -88,12 +92,14 @@ impl SettledNet<'_, '_> {
         known_net(before.net);
         known_prefix(before.scenario.prefix);
         let survivors = Survivors::new(before.net, scenario);
-        let outcome = settle_left(
+        let left = without_cut(alloc, &self.left, cut)?;
+        let outcome = settle_open(
             alloc,
             before.net,
             before.policy,
             self.evidence,
             &survivors,
+            left,
             before.scenario.prefix,
         )?;
         let after = Situation::new(before.net, before.policy, before.config, scenario, &outcome);

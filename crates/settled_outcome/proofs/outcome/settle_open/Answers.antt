@@ -8,12 +8,24 @@ use Rattle.evidence_base.specs.Made.{PlainCaseEvidence}
 use Rattle.outcome_base.specs.Outcomes.{no_failures}
 use Rattle.settled_graph.specs.Best.{entry_at}
 use Rattle.settled_outcome.specs.Outcomes.{AreSettled, case_of, held_by, started_route}
+use Rattle.settled_outcome.proofs.Surviving.{left_is_under}
 use Rattle.settled_outcome.proofs.Routes.{bare_settles, case_settles, starts_at_origins}
-use Rattle.settled_outcome.proofs.outcome.settle_left.Goals as goal
-use Rattle.settled_outcome.proofs.outcome.settle_left.Goals.{in-None+in_ok-others-in-None, in-Some+in_ok-others-in-Some}
+use Rattle.settled_outcome.proofs.outcome.settle_open.Goals as goal
+use Rattle.settled_outcome.proofs.outcome.settle_open.Goals.{in-None+in_ok-others-in-None, in-Some+in_ok-others-in-Some}
 
-pub case_routes-requires : goal.case_routes-requires
-case_routes-requires c = λ n start.
+pub case_routes-requires-clause-left : goal.case_routes-requires-clause-left
+case_routes-requires-clause-left c =
+    let net = c.args.net.now in
+    let case = c.in-Some.case.now in
+    let config = c.requires.passes.0 in
+    let passes = c.requires.passes.1 in
+    let f = c.requires.passes.2.0 in
+    let are = c.requires.passes.2.1 in
+    let found = sym (c.case_of-case.ensures net config passes.made.lines) ∙ ap (option_map (λ d. d.now)) c.in-Some.is in
+    c.requires.passes.2.2 case found ∙ sym (left_is_under net f c.args.survivors.now are case.graph)
+
+pub case_routes-requires-clause-starts : goal.case_routes-requires-clause-starts
+case_routes-requires-clause-starts c = λ n start.
     let case = c.in-Some.case.now in
     let config = c.requires.passes.0 in
     let passes = c.requires.passes.1 in
