@@ -161,8 +161,8 @@ and each of its preferences is above each of CONFIG. CONFIG may be of any
 network; its tags and its preferences alone matter.
 
 With EVIDENCE what stays keeps its tags and its preferences, and so its lines: a
-class with the patterns of an old one that alone shares prefixes with it, where
-the graph of its case is the same, and preferences stand alike.
+class that shares prefixes with one old class, and with no other that has lines,
+where the graph of its case is the same, and preferences stand alike.
 
 reads
   TOPO      a topology text: routers, peers and links
