@@ -18,6 +18,8 @@
 //! moves is no law of its own: it is shown for what a neighbour gives (`proofs/Gifts`). A reader begins with `what_if` and
 //! `what_ifs_are_one`.
 //!
+//! `whatif` alone needs it.
+//!
 //! It knows nothing of the compiler or of texts.
 #![tactic(auto)]
 
