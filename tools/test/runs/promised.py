@@ -29,7 +29,8 @@ case 2 statement 1
 prefix 10.0.2.0/24
 origin A
 source router B C rank 1
-cases 3 unclaimed 0 transit 0 covered 0 unused 0 uncarried 0 open 0 apart 0
+apart statement 1 alternatives 1 2
+cases 3 unclaimed 0 transit 0 covered 0 unused 0 uncarried 0 open 0 apart 1
 """),
     ("nor do those of several statements, which come in their order", ["promises"],
      [TRIANGLE, RACKS + "10.0.2.0/24 or 10.0.3.0/24 => any; 10.0.0.0/8 le 24 => any;"],
