@@ -1,5 +1,5 @@
 -- Which words are a command.
-use Rattle.std.specs.Prelude.{ℕ, ◌+◌, ◌<◌, Bool, ◌&&◌, ◌||◌, nat_le, nat_eq, List, [], ◌∷◌, take, length, slice_get, Option, Some, None, if◌then◌else◌, codes, option_and_then, option_map}
+use Rattle.std.specs.Prelude.{ℕ, ◌+◌, ◌<◌, ◌&&◌, ◌||◌, nat_le, nat_eq, List, [], ◌∷◌, take, length, slice_get, Option, Some, None, if◌then◌else◌, codes, option_and_then, option_map}
 use Rattle.std.specs.Result.{result_ok}
 use Rattle.std.specs.List.{AllByRecursion}
 use Rattle.std.specs.Str.{bytes_eq}
@@ -14,7 +14,7 @@ use Rattle.sample_network.specs.Network.{IsSampleNumber}
 use Rattle.stage_check.specs.declared.which.Stage.{Stage}
 use Rattle.stage_check.specs.declared.which.Stage.TheVariants.{One, Two}
 use Rattle.run_base.specs.declared.outcome.Status.TheVariants.{Usage}
-use Rattle.run_base.specs.Reading.{names_at, word_at}
+use Rattle.run_base.specs.Reading.{names_at}
 use Rattle.run_base.specs.Said.{Said, line}
 use Rattle.propane_run.specs.declared.command.Command.{Command}
 use Rattle.propane_run.specs.declared.command.Command.TheVariants.{Compile, Evidence, Check, Explain, Impact, RouteMap, CheckMap, Lint, Audit, Migrate}

@@ -2,7 +2,6 @@
 use Rattle.std.proofs.Common.{◌≡◌, ◌≢◌, ◌⊎◌, ℕ, List, [], ◌∷◌, Option, inl, inr, refl, sym, ap, ◌∙◌, subst}
 use Rattle.input_output.specs.Outside.{Rose}
 use Rattle.config_base.specs.Configs.{PlainConfig}
-use Rattle.config_text.specs.ConfigText.{config_text}
 use Rattle.run_base.specs.declared.outcome.Status.{Status}
 use Rattle.run_base.specs.declared.outcome.Status.TheVariants.{BadInput, CheckFails, Done, NoMemory, Refused}
 use Rattle.run_base.specs.Reading.{Holds, AllHeld, SaidOfTold}
@@ -13,7 +12,6 @@ use Rattle.run_base.proofs.Told.{told_is}
 use Rattle.stage_check.specs.declared.judging.Verdict.{Verdict}
 use Rattle.stage_check.specs.declared.judging.Verdict.TheVariants.{MayMix, Unlike, TooManyLines, SharedTag, LowPref}
 use Rattle.stage_check.specs.declared.which.Stage.{Stage}
-use Rattle.stage_check.specs.Stages.{stage_of}
 use Rattle.stage_check.specs.Verdicts.{verdict}
 use Rattle.stage_jobs.specs.Betweens.{IsInTheWay, SaysOfConfigs, SaysOfTexts, SaysOfVerdict, too_many_lines, way_line}
 use Rattle.stage_jobs.proofs.BetweenLaws.{at_configs, of_configs}

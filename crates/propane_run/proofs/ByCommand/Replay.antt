@@ -2,7 +2,6 @@
 use Rattle.std.proofs.Common.{ℕ, List, Option}
 use Rattle.run_base.specs.Reading.{Holds}
 use Rattle.run_base.specs.Said.{text, Whole}
-use Rattle.net_base.specs.Network.{IsNet}
 use Rattle.input_texts.specs.FaultLines.{scenario_line}
 use Rattle.scenario_reader.specs.Spelled.{spelled as scenario_spelled}
 use Rattle.scenario_reader.proofs.ReadPrefixes.{spelled_prefix}

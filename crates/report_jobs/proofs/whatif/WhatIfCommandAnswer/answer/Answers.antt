@@ -1,11 +1,8 @@
-use Rattle.std.proofs.Common.{◌≡◌, length, sym, ap, ◌∙◌, subst}
+use Rattle.std.proofs.Common.{ap}
 use Rattle.std.proofs.lemmas.Result.{IfOk-weaker}
-use Rattle.net_base.specs.Network.{PlainNet}
-use Rattle.outcome_base.specs.Outcomes.{Outcome}
 use Rattle.policy_base.specs.Policies.{IsPolicyOf, policy_of}
 use Rattle.evidence_law.specs.Passes.{Passes}
 use Rattle.scenarios.specs.Scenarios.{failures_of}
-use Rattle.impact_law.specs.declared.impact.WhatIf.{WhatIf}
 use Rattle.whatif_report.specs.Moves.{IsSettledOutcome, IsWhatIf}
 use Rattle.report_jobs.proofs.Numbering.{as_many}
 use Rattle.report_jobs.proofs.Situated.{from_situation, in_situation, of_situation}
