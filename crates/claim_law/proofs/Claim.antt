@@ -6,7 +6,7 @@ use Rattle.outcome_law.proofs.Longest.{packets_arrive}
 use Rattle.motion_law.proofs.Ever.{every_route_is_allowed}
 use Rattle.motion_rest.proofs.Resting.{passing_evidence_rests}
 use Rattle.multipath_law.proofs.Spread.{passing_evidence_spreads_right}
-use Rattle.rest_law.proofs.Ended.{passing_evidence_comes_to_rest}
+use Rattle.event_rest.proofs.Corner.{passing_evidence_comes_to_rest}
 use Rattle.claim_law.specs.Laws.{PassingEvidenceKeepsPolicy, PassingEvidenceKeepsItAtWork}
 use Rattle.claim_law.proofs.OfNet.{made_configurations_are_of_their_net}
 use Rattle.claim_law.proofs.Taken.{made_configurations_take_permitted}

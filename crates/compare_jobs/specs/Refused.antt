@@ -15,12 +15,6 @@ IsLimit (New e) = e ≢ limit.NoMemory
 IsLimit (TooManySteps one other) = Unit {0}
 IsLimit NoMemory = ⊥
 
--- it is a limit on the cases of one policy
-abbrev pub IsOfCase : ComparisonRefusal → Type 0
-IsOfCase (Old e) = Unit {0}
-IsOfCase (New e) = Unit {0}
-IsOfCase _ = ⊥
-
 -- the statements of the pair with which the graphs of pairs have too many steps
 unfoldable pub too_many_pairs : Option ℕ → Option ℕ → List ℕ
 too_many_pairs old new = codes "propane: refused 9 too-many-pairs statement " ++ number_text old ++ codes " now " ++ number_text new ++ codes "\n"

@@ -19,7 +19,7 @@
 //! It knows nothing of words, names or sinks.
 #![tactic(auto)]
 
-ghost use Rattle.compare_jobs.specs.Laws.{ComparedTextsAreOne, UnchangedTextsTellSamePolicies, UntoldPrefixesAreAlike};
+ghost use Rattle.compare_jobs.specs.Laws.{ComparedTextsAreOne, SamePoliciesAreTold, ToldPairsDiffer, UnchangedTextsTellSamePolicies, UntoldPrefixesAreAlike};
 
 mod compare;
 mod lines;
@@ -32,9 +32,15 @@ pub fn texts_of_comparisons_are_one()
     ensures { ComparedTextsAreOne }
 {}
 
-/// Where the text of a comparison is `cases N changed 0` the policies say the same of every prefix, and one configuration serves both or
-/// neither. Of a prefix whose pair isn't told they say the same, too.
+/// The text of a comparison is `cases N changed 0` exactly where the policies say the same of every prefix, and then one configuration serves
+/// both or neither. Of a prefix whose pair isn't told they say the same, too.
 pub fn texts_tell_what_is_the_same()
     ensures unchanged { UnchangedTextsTellSamePolicies }
+    ensures same { SamePoliciesAreTold }
     ensures untold { UntoldPrefixesAreAlike }
+{}
+
+/// Each pair of cases that is told as differing has a prefix, and of none that has it the policies say the same.
+pub fn texts_tell_what_differs()
+    ensures { ToldPairsDiffer }
 {}

@@ -29,12 +29,16 @@ UntoldPrefixesAreAlike =
     (net : PlainNet) (old new : PlainPolicy) (xs : List ComparedPair) (p : PlainPrefix) → IsNet net → IsComparison net old new xs → IsPrefix p
     → IsUntold net old new xs p → IsAlike net old new p
 
--- Each pair that is told as differing has a prefix, and of each prefix that has it they don't say the same.
+-- the pair has a prefix, and of no prefix that has it they say the same
+abbrev pub IsUnlike : PlainNet → PlainPolicy → PlainPolicy → ComparedPair → Type 0
+IsUnlike net old new x =
+    ((p : PlainPrefix) × IsPrefix p × (pair_for old new p ≡ x.pair.cases)) × ((p : PlainPrefix) → IsPrefix p → pair_for old new p ≡ x.pair.cases → ¬ IsAlike net old new p)
+
+-- Each pair that is told as differing does.
 abbrev pub ToldPairsDiffer : Type 0
 ToldPairsDiffer =
     (net : PlainNet) (old new : PlainPolicy) (xs : List ComparedPair) (x : ComparedPair) → IsNet net → HaveSets old → HaveSets new → IsComparison net old new xs
-    → IsIn xs x → IsTrue (is_changed net x)
-    → ((p : PlainPrefix) × IsPrefix p × (pair_for old new p ≡ x.pair.cases)) × ((p : PlainPrefix) → IsPrefix p → pair_for old new p ≡ x.pair.cases → ¬ IsAlike net old new p)
+    → IsIn xs x → IsTrue (is_changed net x) → IsUnlike net old new x
 
 -- Where no pair is told as differing the policies say the same of every prefix.
 abbrev pub UnchangedPoliciesAreSame : Type 0

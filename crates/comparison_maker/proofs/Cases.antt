@@ -4,7 +4,7 @@ use Rattle.net_base.specs.Network.{PlainNet}
 use Rattle.net_base.specs.Prefixes.{PlainPrefix}
 use Rattle.policy_base.specs.Policies.{PlainPolicy}
 use Rattle.graph_base.specs.Graphs.{IsGraph, PlainGraph}
-use Rattle.pair_graph.specs.Room.{PassesRoom}
+use Rattle.pair_graph.specs.Room.{HasPairSteps, PassesRoom}
 use Rattle.pair_graph.specs.declared.fault.PairFault.{PairFault}
 use Rattle.pair_graph.specs.declared.fault.PairFault.TheVariants as fault
 use Rattle.compare_base.specs.declared.cases.CasePair.{CasePair}
@@ -14,7 +14,6 @@ use Rattle.compare_base.specs.Cases.{case_for, pair_for}
 use Rattle.case_graphs.specs.Graphs.{IsGraphFor, graph_in}
 use Rattle.pair_changes.specs.Changes.{IsPairChange}
 use Rattle.pair_changes.specs.Shown.{ShowsWalks}
-use Rattle.pair_changes.specs.Steps.{HasPairSteps}
 use Rattle.comparison_maker.specs.declared.graphs.BothGraphs.{BothGraphs}
 use Rattle.comparison_maker.specs.Compared.{AreGraphsOfBoth, IsChangeFor, IsRefusedAt, refusal_for}
 use Rattle.comparison_maker.specs.Refusals.{HasSteps}
@@ -47,4 +46,4 @@ module _ (net : PlainNet) (old new : PlainPolicy) (graphs : BothGraphs) (both : 
 
   -- the count of steps is that of the pair of cases
   pub steps_for : (used : ℕ) → HasPairSteps before after used → HasSteps net old new cases used
-  steps_for used has = record { before = before; after = after; pairs = has.pairs; both = has.both; is_before = of_old; is_after = of_new; is = has.is; steps = has.steps }
+  steps_for used has = record { before = before; after = after; is_before = of_old; is_after = of_new; steps = has }

@@ -10,7 +10,6 @@ use Rattle.list_law.proofs.Items.{from_front, same_item, slice_get-there}
 use Rattle.list_law.proofs.Members.{IsIn-nil, IsIn-push_cases}
 use Rattle.net_base.specs.Network.{PlainNet}
 use Rattle.policy_base.specs.Policies.{PlainPolicy}
-use Rattle.pair_graph.specs.Room.{PassesRoom}
 use Rattle.compare_base.specs.declared.pairs.Pair.{Pair}
 use Rattle.compare_base.specs.declared.rows.PairChange.{PairChange}
 use Rattle.policy_pairs.specs.Pairs.{ArePairs}
@@ -20,7 +19,7 @@ use Rattle.comparison_maker.specs.declared.graphs.BothGraphs.{BothGraphs}
 use Rattle.comparison_maker.specs.declared.limits.TheConstants.{PAIR_STEPS}
 use Rattle.comparison_maker.specs.declared.refusal.ComparisonRefusal.{ComparisonRefusal}
 use Rattle.comparison_maker.specs.declared.refusal.ComparisonRefusal.TheVariants.{Old, New, TooManySteps, NoMemory}
-use Rattle.comparison_maker.specs.Compared.{AreGraphsOfBoth, IsChangeFor, IsRefusedAt}
+use Rattle.comparison_maker.specs.Compared.{AreGraphsOfBoth, IsChangeFor, IsRefusedAt, PassesAt}
 use Rattle.comparison_maker.specs.Refusals.{AreStepsWithin, HasSteps, HaveSteps, IsRefusedFor, sum_of}
 
 -- the first of all pairs are compared, each with what it changes, and their graphs leave so much room
@@ -99,13 +98,7 @@ module _ (net : PlainNet) (old new : PlainPolicy) (all : List Pair) where
           within = omega (arith, before.left);
           pair = pair;
           next = ap (slice_get all) before.size ∙ next;
-          before = refused.before;
-          after = refused.after;
-          is_before = refused.is_before;
-          is_after = refused.is_after;
-          passes = subst (PassesRoom refused.before refused.after) rest refused.passes;
-          is_one = refused.is_one;
-          is_other = refused.is_other;
+          passes = subst (λ (n : ℕ). PassesAt net old new pair.cases n one other) rest refused;
         },
       )
   refused_next graphs done xs room pair NoMemory both are before next refused = tt

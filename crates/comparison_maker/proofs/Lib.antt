@@ -1,3 +1,4 @@
 pub mod CaseWalks
 mod Cases
 mod Comparing
+pub mod Once

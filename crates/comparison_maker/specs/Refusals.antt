@@ -3,14 +3,13 @@ use Rattle.std.specs.Prelude.{◌≡◌, ℕ, ◌-◌, ◌≤◌, List, length, 
 use Rattle.net_base.specs.Network.{PlainNet}
 use Rattle.policy_base.specs.Policies.{PlainPolicy}
 use Rattle.graph_base.specs.Graphs.{PlainGraph}
-use Rattle.pair_graph.specs.declared.pair.NodePair.{NodePair}
-use Rattle.pair_graph.specs.Made.{IsPairGraph}
-use Rattle.pair_graph.specs.Room.{PassesRoom}
+use Rattle.pair_graph.specs.Room.{HasPairSteps}
 use Rattle.compare_base.specs.declared.cases.CasePair.{CasePair}
 use Rattle.compare_base.specs.declared.pairs.Pair.{Pair}
 use Rattle.policy_pairs.specs.Pairs.{ArePairs}
 use Rattle.case_graphs.specs.Graphs.{IsGraphFor}
 use Rattle.case_graphs.specs.Limits.{AreAllWithin, IsRefused}
+use Rattle.comparison_maker.specs.Compared.{PassesAt}
 use Rattle.comparison_maker.specs.declared.limits.TheConstants.{PAIR_STEPS}
 use Rattle.comparison_maker.specs.declared.refusal.ComparisonRefusal.{ComparisonRefusal}
 use Rattle.comparison_maker.specs.declared.refusal.ComparisonRefusal.TheVariants.{Old, New, TooManySteps, NoMemory}
@@ -19,12 +18,9 @@ use Rattle.comparison_maker.specs.declared.refusal.ComparisonRefusal.TheVariants
 pub record HasSteps (net : PlainNet) (old new : PlainPolicy) (cases : CasePair) (count : ℕ) : Type 0 where
   pub before : PlainGraph
   pub after : PlainGraph
-  pub pairs : List NodePair
-  pub both : PlainGraph
   pub is_before : IsGraphFor net old cases.old before
   pub is_after : IsGraphFor net new cases.new after
-  pub is : IsPairGraph before after pairs both
-  pub steps : count ≡ length both.steps
+  pub steps : HasPairSteps before after count
 
 -- the graphs of the first pairs have so many steps, one after the other
 abbrev pub HaveSteps : PlainNet → PlainPolicy → PlainPolicy → List Pair → List ℕ → Type 0
@@ -42,13 +38,7 @@ pub record PassesSteps (net : PlainNet) (old new : PlainPolicy) (one other : Opt
   pub within : sum_of counts ≤ PAIR_STEPS
   pub pair : Pair
   pub next : slice_get pairs (length counts) ≡ Some pair
-  pub before : PlainGraph
-  pub after : PlainGraph
-  pub is_before : IsGraphFor net old pair.cases.old before
-  pub is_after : IsGraphFor net new pair.cases.new after
-  pub passes : PassesRoom before after (PAIR_STEPS - sum_of counts)
-  pub is_one : one ≡ pair.cases.old.statement
-  pub is_other : other ≡ pair.cases.new.statement
+  pub passes : PassesAt net old new pair.cases (PAIR_STEPS - sum_of counts) one other
 
 -- all pairs together have no more
 pub record AreStepsWithin (net : PlainNet) (old new : PlainPolicy) : Type 0 where

@@ -8,7 +8,8 @@
 //!
 //! Then the pairs are compared in order, with one room for the steps of the graphs of their pairs of nodes, as the cases of one policy
 //! share one (`PAIR_STEPS`). A pair may have as many steps as the product of its two graphs, so without a limit two small policies could
-//! ask for much.
+//! ask for much. How many steps a pair of cases has is one number, so it is told of one pair, and never of policies that are compared
+//! (`steps_are_counted_once`).
 //!
 //! Nothing is compiled: whether sources have paths, or preference numbers exist, isn't asked. So a policy that `compile` refuses for these
 //! can be compared. `ComparisonRefusal` has the limits of cases, of the old policy and of the new one, the limit of pairs and want of memory.
@@ -25,6 +26,6 @@ pub mod limits;
 mod maker;
 mod refusal;
 
-pub use laws::case_graphs_show_walks;
+pub use laws::{case_graphs_show_walks, steps_are_counted_once};
 pub use maker::compare_policies;
 pub use refusal::ComparisonRefusal;

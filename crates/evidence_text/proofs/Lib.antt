@@ -7,3 +7,5 @@ mod PrefixLetters
 mod Rewritten
 mod SetMembers
 mod TextLaws
+mod TokenCases
+mod TokenLaws

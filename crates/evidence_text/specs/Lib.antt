@@ -6,4 +6,5 @@ pub mod Ranges
 pub mod Shape
 pub mod Spelled
 pub mod Text
+pub mod Tokens
 pub mod Writable

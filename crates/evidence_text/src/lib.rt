@@ -7,6 +7,10 @@
 //! before any range is. The JSON value takes far more memory than what it says, and is given back before the rules are
 //! judged.
 //!
+//! Evidence with the keys of each object in order and with all numbers in their ranges, as it is printed, is read from the
+//! tokens of its text instead, and no JSON value is made (`tokens`). Any other text is read as above, so that each fault
+//! is told by these passes alone.
+//!
 //! A value that isn't a number is a fault of the shape. A number that is too large, negative or not whole is a fault of a
 //! number. Origins break the shape only where all are in their range and don't ascend. A case with more nodes than a graph
 //! can number is answered with want of memory: no text that memory holds has so many.
@@ -30,6 +34,7 @@ mod print;
 mod raw;
 mod read;
 mod shape;
+mod tokens;
 
 pub use fault::EvidenceFault;
 pub use parts::Field;

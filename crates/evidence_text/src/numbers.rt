@@ -4,7 +4,7 @@ ghost use Rattle.std.specs.Option.{ForSome};
 ghost use Rattle.serde_json.specs.Find.{as_number, as_u64};
 ghost use Rattle.serde_json.specs.View.{view};
 ghost use Rattle.net_base.specs.Gives.{GivesUnless};
-ghost use Rattle.evidence_text.specs.Entries.{entry as entry_of, pair as pair_of, rank_of, within};
+ghost use Rattle.evidence_text.specs.Entries.{entry as entry_of, pair as pair_of, rank_of, within as in_range};
 ghost use Rattle.evidence_text.specs.Shape.{number_of};
 
 use crate::fault::EvidenceFault;
@@ -14,16 +14,22 @@ use graph_base::Node;
 use net_base::{Loc, Tag};
 use serde_json::Value;
 
-// The whole number that a JSON number is, where it is in the range.
-fn whole(value: &Value, least: u32, most: u32) -> Option<u32>
-    ensures { result ≡ option_and_then (λ n. option_and_then (within least most) (as_u64 n)) (as_number (view value.now)) }
+/// The number, where it is in the range.
+pub fn within(number: u64, least: u32, most: u32) -> Option<u32>
+    ensures { result ≡ in_range least most number }
 {
-    let number = value.as_u64()?;
     if u64::from(least) <= number && number <= u64::from(most) {
         Some(number as u32)
     } else {
         None
     }
+}
+
+// The whole number that a JSON number is, where it is in the range.
+fn whole(value: &Value, least: u32, most: u32) -> Option<u32>
+    ensures { result ≡ option_and_then (λ n. option_and_then (in_range least most) (as_u64 n)) (as_number (view value.now)) }
+{
+    within(value.as_u64()?, least, most)
 }
 
 /// A JSON number, and which number it is where it is whole and in the range.

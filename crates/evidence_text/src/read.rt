@@ -11,6 +11,7 @@ use crate::fault::EvidenceFault;
 use crate::judge::{are_placed, evidence, numbered};
 use crate::raw::RawEvidence;
 use crate::shape::shape;
+use crate::tokens::read_tokens;
 use evidence_base::Evidence;
 use json_values::{JsonFault, json_value};
 use serde_json::Value;
@@ -44,12 +45,15 @@ fn judge(alloc: Global, raw: &RawEvidence) -> Result<Evidence, EvidenceFault>
 }
 
 /// The evidence that the bytes spell, or the least rule that they break. Any bytes are read or refused, in time and
-/// memory in proportion to their number. The JSON value, which takes far more memory than what it says, is given back
-/// before the rules are judged.
+/// memory in proportion to their number. Evidence as it is printed is read from its tokens; of any other text the JSON
+/// value is made, which takes far more memory than what it says and is given back before the rules are judged.
 #[tactic(auto, unfolding(crate::specs::Spelled::spelled))]
 pub fn read_evidence(alloc: Global, bytes: &[u8]) -> Result<Evidence, EvidenceFault>
     ensures exact { GivesUnless EvidenceFault.NoMemory (λ evidence. evidence.cases) result (spelled bytes.now) }
 {
+    if let Some(raw) = read_tokens(alloc, bytes) {
+        return judge(alloc, &raw);
+    }
     let raw = {
         let value = value_of(alloc, bytes)?;
         shape(alloc, &value)?

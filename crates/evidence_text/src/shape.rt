@@ -215,8 +215,8 @@ fn some_is_out(numbers: &[Option<u32>]) -> bool
     numbers.iter().any(|number| number.is_none())
 }
 
-// Whether the locations ascend, where all are in their range.
-fn are_in_order(origins: &[Option<u32>]) -> bool
+/// Whether the locations ascend, where all are in their range.
+pub fn are_in_order(origins: &[Option<u32>]) -> bool
     ensures { result ≡ in_order origins.now }
 {
     some_is_out(origins) || ascend(origins)

@@ -2,7 +2,7 @@
 use Rattle.std.proofs.Common.{◌≡◌, ℕ, ◌<◌, ◌≤◌, ◌+◌, ◌-◌, suc, Bool, true, false, ◌⊎◌, List, [], ◌∷◌, ◌++◌, length, Option, Some, None, refl, sym, ap, ◌∙◌, subst, inl, inr, arith}
 use Rattle.std.specs.Prelude.{not, option_map}
 use Rattle.std.specs.Option.{option_and_then}
-use Rattle.std.proofs.lemmas.Bool.{and_parts, cases_Bool, cond-true, cond-false, not-true, true≢false}
+use Rattle.std.proofs.lemmas.Bool.{and_parts, cases_Bool, cond-true, cond-false, ltb-true, not-true, true≢false}
 use Rattle.std.proofs.lemmas.List.{length-append}
 use Rattle.std.proofs.lemmas.Option.{same_Some}
 use Rattle.list_law.proofs.Options.{cases_Option, none_from, none_or_some, option_and_then_parts}
@@ -25,9 +25,9 @@ use Rattle.routing_law.specs.Graph as graph
 use Rattle.routing_law.specs.Network as law
 use Rattle.routing_law.specs.Outcome as outcomes
 use Rattle.routing_law.proofs.Heard.{chooses_from, heard_parts}
-use Rattle.rest_law.proofs.Search.{loop_free_short}
 use Rattle.event_law.proofs.Offers.{lines_here}
 use Rattle.tie_law.specs.Ties.{IsSize}
+use Rattle.steady_law.proofs.Paths.{short as short_path}
 use Rattle.steady_law.specs.Histories.{AreStill, AreTied, History, HoldsRuns, IsRound as IsRoundOf, IsSteady, IsToldOf, IsTop, TiesAt}
 use Rattle.motion_law.specs.Motion.{Motion, announced, gift, has_to_say, is_top, live_in, picked, told}
 use Rattle.motion_law.specs.Rounds.{IsCalm, IsRound, Schedule, world_at}
@@ -45,7 +45,7 @@ module _ (net : PlainNet) (policy : PlainPolicy) (config : PlainConfig) (cs : Li
     (c : CaseFound net policy config cs rules kept passes no_failures p) (f : Failures) (w : Motion) (scenario : IsScenarioIn net w f)
     (s : Schedule) (calm : IsCalm s) (keeps : IsKept net policy config p w) (kinds : AreKinds net policy config p rules w)
     (time : ℕ → ℕ) (grows : (k : ℕ) → time k ≤ time (suc k)) (count : ℕ) (rounds : (k : ℕ) → k < count → IsRound net policy config p s w (time k) (time (suc k))) (one : 0 < count)
-    (few : length net.routers + length net.peers < count) where
+    (few : length net.routers ≤ count) where
   abbrev X : ℕ → Motion
   X t = world_at net policy config p s w t
 
@@ -68,7 +68,7 @@ module _ (net : PlainNet) (policy : PlainPolicy) (config : PlainConfig) (cs : Li
   node = node_of net policy config cs rules kept passes p prefix c f w scenario
 
   abbrev behind : List ℕ → List ℕ
-  behind = tail net policy config cs rules kept passes p prefix c f w scenario s calm keeps kinds time grows count rounds one
+  behind = tail net policy config cs rules kept passes p prefix c f w scenario s calm keeps kinds time grows count rounds
 
   -- the number of AS numbers of a whole path
   abbrev pub size : List ℕ → ℕ
@@ -84,10 +84,14 @@ module _ (net : PlainNet) (policy : PlainPolicy) (config : PlainConfig) (cs : Li
   -- ---- from the time on at which all that is held is current
 
   abbrev pub enough : ℕ
-  enough = suc (length net.routers + length net.peers)
+  enough = length net.routers
 
-  first_of : (i : ℕ) → enough ≤ i → time 1 ≤ time i
-  first_of i l = (let e : 1 + (i - 1) ≡ i = omega (arith, l) in subst (λ k. time 1 ≤ time k) e (later net policy config cs rules kept passes p prefix c f w scenario s calm keeps kinds time grows count rounds 1 (i - 1)))
+  -- that isn't before the first round, where there is a router
+  first_of : (r i : ℕ) → is_router net r ≡ true → enough ≤ i → time 1 ≤ time i
+  first_of r i router l =
+      let some = ltb-true r (length net.routers) router in
+      let e : 1 + (i - 1) ≡ i = omega (arith, l, some) in
+      subst (λ k. time 1 ≤ time k) e (later net policy config cs rules kept passes p prefix c f w scenario s calm keeps kinds time grows count rounds 1 (i - 1))
 
   after_enough : (i : ℕ) → enough ≤ i → time enough ≤ time i
   after_enough i l = (let e : enough + (i - enough) ≡ i = omega (arith, l) in subst (λ k. time enough ≤ time k) e (later net policy config cs rules kept passes p prefix c f w scenario s calm keeps kinds time grows count rounds enough (i - enough)))
@@ -95,19 +99,24 @@ module _ (net : PlainNet) (policy : PlainPolicy) (config : PlainConfig) (cs : Li
   pub fine : (t r : ℕ) (x : FullRoute) → (X t).route r ≡ Some x → IsFineAt net policy config cs rules kept passes p prefix c f w scenario r x
   fine = fine_at net policy config cs rules kept passes p prefix c f w scenario s calm keeps kinds time grows count rounds
 
-  short : (t r : ℕ) (x : FullRoute) → (X t).route r ≡ Some x → is_origin net policy p r ≡ false → length x.route.path ≤ length net.routers + length net.peers
-  short t r x e o = (let a = (fine t r x e).other o in loop_free_short (lines_here net policy config cs rules kept passes p no_failures c).formed x.route.path a.node a.runs a.free)
+  short : (t r : ℕ) (x : FullRoute) → (X t).route r ≡ Some x → is_origin net policy p r ≡ false → length x.route.path ≤ suc (length net.routers)
+  short t r x e o =
+      let a = (fine t r x e).other o in
+      let few =
+      short_path (lines_here net policy config cs rules kept passes p no_failures c).formed (length net.routers) (λ v k. ltb-true v (length net.routers) k) r a.rest a.node (fine t r x e).router
+      (ap (graph.run Gr) (sym a.begins) ∙ a.runs) (ap law.loop_free (sym a.begins) ∙ a.free) in
+      let same : length x.route.path ≡ length (r ∷ a.rest) = ap length a.begins in
+      omega (arith, few, same)
 
   pub current : (t r : ℕ) (x : FullRoute) → time enough ≤ t → is_origin net policy p r ≡ false → (X t).route r ≡ Some x → x.behind ≡ behind x.route.path
   current t r x late o e =
-      current_after net policy config cs rules kept passes p prefix c f w scenario s calm keeps kinds time grows count rounds one (length net.routers + length net.peers) few t late r x o e
-      (let l = short t r x e o in omega (arith, l))
+      current_after net policy config cs rules kept passes p prefix c f w scenario s calm keeps kinds time grows count rounds (length net.routers) few t late r x o e (short t r x e o)
 
   -- what is given then is current too
   current_gift : (t u r : ℕ) (x : FullRoute) → time enough ≤ t → is_router net r ≡ true → given_under net config f w.says p (full_of net (X t)) u r ≡ Some x → x.behind ≡ behind x.route.path
   current_gift t u r x late router e =
-      current_given net policy config cs rules kept passes p prefix c f w scenario s calm keeps kinds time grows count rounds one (length x.route.path) t u r x
-      (let l = first_of enough (omega arith) in omega (arith, l, late)) router (λ z y o at l. current t z y late o at) e (omega arith)
+      current_given net policy config cs rules kept passes p prefix c f w scenario s calm keeps kinds time grows count rounds (length x.route.path) t u r x router
+      (λ z y o at l. current t z y late o at) e (omega arith)
 
   -- ---- what is held and what is chosen over, in the graph
 
@@ -159,7 +168,7 @@ module _ (net : PlainNet) (policy : PlainPolicy) (config : PlainConfig) (cs : Li
             })
         | inl from ↦ (
             let k = from.since_start in
-            let g = good from.then' (let l = first_of i start in omega (arith, k, l)) in
+            let g = good from.then' (let l = first_of r i router start in omega (arith, k, l)) in
             record {
               then' = from.then';
               late = from.since_start;
@@ -289,7 +298,7 @@ module _ (net : PlainNet) (policy : PlainPolicy) (config : PlainConfig) (cs : Li
 
   pub routes_same : (t t' z : ℕ) → time enough ≤ t → time enough ≤ t' → is_router net z ≡ true → w.down z ≡ false → h t z ≡ h t' z → (X t).route z ≡ (X t').route z
   routes_same t t' z late late' router up same = elim (cases_Bool (is_origin net policy p z)) [
-    | inl o ↦ (good t (omega (arith, late, first_of enough (omega arith)))).own z router up o ∙ sym ((good t' (omega (arith, late', first_of enough (omega arith)))).own z router up o)
+    | inl o ↦ (good t (omega (arith, late, first_of z enough router (omega arith)))).own z router up o ∙ sym ((good t' (omega (arith, late', first_of z enough router (omega arith)))).own z router up o)
     | inr o ↦ (
         let k : law.chooses Set.net Set.alive z ≡ true = chooses_from Set z router (ap not (scenario.dead z ∙ up)) o in
         by o ((X t).route z) refl ((X t').route z) refl

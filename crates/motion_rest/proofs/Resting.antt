@@ -1,9 +1,10 @@
 -- Networks whose evidence passes come to rest: first what stands behind routes is current, then one router settles after the other, and
 -- after one more round all is heard.
-use Rattle.std.proofs.Common.{◌≡◌, ℕ, ◌<◌, ◌≤◌, ◌+◌, ◌*◌, zero, suc, Bool, true, false, List, [], length, Option, Some, None, sym, ap, ◌∙◌, subst, inl, inr, arith}
+use Rattle.std.proofs.Common.{◌≡◌, ℕ, ◌<◌, ◌≤◌, ◌+◌, zero, suc, Bool, true, false, List, [], length, Option, Some, None, sym, ap, ◌∙◌, subst, inl, inr, arith}
 use Rattle.std.specs.Prelude.{◌&&◌, option_map}
 use Rattle.std.specs.Option.{option_and_then}
-use Rattle.std.proofs.lemmas.Bool.{and_from, cases_Bool, cond-true, cond-false, not_from_false}
+use Rattle.std.proofs.Math.Nat.{mul-add}
+use Rattle.std.proofs.lemmas.Bool.{and_from, cases_Bool, cond-true, cond-false, ltb-true, not_from_false}
 use Rattle.list_law.proofs.Options.{none_from, none_or_some}
 use Rattle.net_base.specs.Network.{PlainNet, IsNet, is_router}
 use Rattle.net_base.specs.Prefixes.{PlainPrefix, IsPrefix}
@@ -20,6 +21,7 @@ use Rattle.settled_law.proofs.SettledLaw.{CaseFound, case_or_bare}
 use Rattle.routing_law.specs.Graph as graph
 use Rattle.routing_law.specs.Outcome as outcomes
 use Rattle.event_law.proofs.Offers.{lines_here}
+use Rattle.steady_law.specs.Histories.{rounds_needed}
 use Rattle.steady_law.proofs.Settle.{ties_settle}
 use Rattle.motion_law.specs.Motion.{Motion, Move, announced, at_the_start, gift, has_to_say, picked, told, with_tag}
 use Rattle.motion_law.specs.Rounds.{IsCalm, IsRound, Schedule, world_at}
@@ -68,10 +70,10 @@ module _ (net : PlainNet) (policy : PlainPolicy) (config : PlainConfig) (p : Pla
 
 -- the k-th after so many
 abbrev after : ℕ → ℕ → ℕ
-after n zero = suc n
+after n zero = n
 after n (suc k) = suc (after n k)
 
-after_is : (n k : ℕ) → after n k ≡ k + suc n
+after_is : (n k : ℕ) → after n k ≡ k + n
 after_is n zero = omega arith
 after_is n (suc k) = (let e = after_is n k in omega (arith, e))
 
@@ -138,23 +140,27 @@ module _ (net : PlainNet) (policy : PlainPolicy) (config : PlainConfig) (cs : Li
     (s : Schedule) (calm : IsCalm s) (keeps : IsKept net policy config p w) (kinds : AreKinds net policy config p rules w)
     (time : ℕ → ℕ) (grows : (k : ℕ) → time k ≤ time (suc k)) (rounds : (k : ℕ) → k < rounds_enough net → IsRound net policy config p s w (time k) (time (suc k))) where
   abbrev n : ℕ
-  n = length net.routers + length net.peers
+  n = length net.routers
 
   abbrev all : ℕ
-  all = suc n * suc n
+  all = rounds_needed n
+
+  -- the rounds until the numbers behind routes are those of now, those until all is settled, and one
+  in_all : rounds_enough net ≡ suc (all + n)
+  in_all = omega (arith, mul-add n n 3, mul-add n n 2)
 
   one : 0 < rounds_enough net
   one = omega arith
 
-  few : n < rounds_enough net
-  few = omega arith
+  few : n ≤ rounds_enough net
+  few = omega (arith, in_all)
 
   -- the last round begins
   abbrev last : ℕ
   last = after n all
 
   last_within : last < rounds_enough net
-  last_within = (let e = after_is n all in omega (arith, e))
+  last_within = (let e = after_is n all in omega (arith, e, in_all))
 
   meets : graph.MeetsRules (network_of net (is_origin net policy p)) (Graph net policy config cs rules kept passes p prefix c)
   meets = subst (λ (o : ℕ → Bool). graph.MeetsRules (network_of net o) (Graph net policy config cs rules kept passes p prefix c)) c.same c.numbers
@@ -168,8 +174,8 @@ module _ (net : PlainNet) (policy : PlainPolicy) (config : PlainConfig) (cs : Li
   settled : (r : outcomes.Routes) × ((t v : ℕ) → time last ≤ t → hs t v ≡ r v)
   settled =
       let a =
-      ties_settle S (size net policy config cs rules kept passes p prefix c f w scenario s calm keeps kinds time grows (rounds_enough net) rounds one few)
-      (sized net policy config cs rules kept passes p prefix c f w scenario s calm keeps kinds time grows (rounds_enough net) rounds one few)
+      ties_settle S (size net policy config cs rules kept passes p prefix c f w scenario s calm keeps kinds time grows (rounds_enough net) rounds one few) n
+      (λ v k. ltb-true v n k) (sized net policy config cs rules kept passes p prefix c f w scenario s calm keeps kinds time grows (rounds_enough net) rounds one few)
       (lines_here net policy config cs rules kept passes p no_failures c).formed meets hs (λ k. time (after n k))
       (holds_runs net policy config cs rules kept passes p prefix c f w scenario s calm keeps kinds time grows (rounds_enough net) rounds one few)
       (λ k. grows (after n k))
@@ -180,17 +186,17 @@ module _ (net : PlainNet) (policy : PlainPolicy) (config : PlainConfig) (cs : Li
       (a.0, a.1)
     where
       within : (k : ℕ) → k ≤ all → after n k < rounds_enough net
-      within k l = (let e = after_is n k in omega (arith, l, e))
+      within k l = (let e = after_is n k in omega (arith, l, e, in_all))
 
-      above : (k : ℕ) → suc n ≤ after n k
+      above : (k : ℕ) → n ≤ after n k
       above k = (let e = after_is n k in omega (arith, e))
 
-  late_enough : (t : ℕ) → time last ≤ t → time (suc n) ≤ t
+  late_enough : (t : ℕ) → time last ≤ t → time n ≤ t
   late_enough t l =
-      let a = later net policy config cs rules kept passes p prefix c f w scenario s calm keeps kinds time grows (rounds_enough net) rounds (suc n) all in
+      let a = later net policy config cs rules kept passes p prefix c f w scenario s calm keeps kinds time grows (rounds_enough net) rounds n all in
       let f = after_is n all in
-      let e : suc n + all ≡ last = omega (arith, f) in
-      let b : time (suc n + all) ≡ time last = ap time e in
+      let e : n + all ≡ last = omega (arith, f) in
+      let b : time (n + all) ≡ time last = ap time e in
       omega (arith, a, b, l)
 
   same : (a b t : ℕ) → is_live net f a b ≡ true → time last ≤ t
@@ -237,7 +243,7 @@ module _ (net : PlainNet) (policy : PlainPolicy) (config : PlainConfig) (cs : Li
               λ r router. bare_stays net policy config p free s calm w keeps rules f scenario (time 0) (time 1) first t end r (omega (arith, m, late)) m router,
             ))
         | inl c ↦ (
-            let last = after (length net.routers + length net.peers) (suc (length net.routers + length net.peers) * suc (length net.routers + length net.peers)) in
+            let last = after (length net.routers) (rounds_needed (length net.routers)) in
             let m = by_end net policy config p s w (suc last) k 0 end rs in (
               rests net policy config cs rules kept passes p prefix c f w scenario s calm keeps kinds time grows rounds t (omega (arith, m, late)),
               λ r router. stays net policy config cs rules kept passes p prefix c f w scenario s calm keeps kinds time grows rounds t end r (omega (arith, m, late)) m router,

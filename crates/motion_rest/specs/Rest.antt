@@ -43,9 +43,9 @@ module _ (net : PlainNet) (policy : PlainPolicy) (config : PlainConfig) (p : Pla
   AreRounds zero start end = start ≤ end
   AreRounds (suc k) start end = (middle : ℕ) × IsRound net policy config p s w start middle × AreRounds k middle end
 
--- So many rounds are enough: (n + 1) * (n + 2) + 1, for n locations.
+-- So many rounds are enough: R * (R + 3) + 1, for R routers.
 abbrev pub rounds_enough : PlainNet → ℕ
-rounds_enough net = suc (suc (length net.routers + length net.peers) + suc (length net.routers + length net.peers) * suc (length net.routers + length net.peers))
+rounds_enough net = suc (length net.routers * (length net.routers + 3))
 
 -- No direction of a link and no router is forgotten for ever.
 pub record IsFair (net : PlainNet) (s : Schedule) : Type 0 where

@@ -8,12 +8,13 @@
 //!
 //! - `proofs/Choices`: what a router picks is one of the first of what it makes of what it has heard; what it holds on to, too.
 //! - `proofs/Sources`: after a round it has picked over what was said since the round's start. So after as many rounds as there are
-//!   locations the numbers behind each route are those that the peer at its end says now: they are passed on place by place.
+//!   routers the numbers behind each route are those that the peer at its end says now: they are passed on place by place.
 //! - `proofs/Match`: what a router makes of what a neighbour says is what the graph of the prefix's case does with the neighbour's route.
 //! - `proofs/Still`: a direction that always has the same to say falls silent, and brings no news.
 //! - `proofs/History`: so what routers hold is, in the graph, a history as `steady_law` asks for it, and all of it settles.
 //! - `proofs/End`: then one more round leaves nothing that waits, and nobody would choose again.
-//! - `proofs/Fair`: a schedule that forgets nobody has as many rounds as one likes. `proofs/Resting` puts these together.
+//! - `proofs/Fair`: a schedule that forgets nobody has as many rounds as one likes. `proofs/Resting` puts these together: R rounds for the
+//!   numbers behind, R * (R + 2) for all to settle, and one.
 //!
 //! Where a prefix has no class nobody takes anything, and one round is enough. That there is one end only where ties go by the lowest
 //! identifier isn't said here: `steady_law` says it of abstract outcomes.

@@ -4,4 +4,3 @@ pub mod Places
 pub mod Kinds
 pub mod Walks
 pub mod Carriers
-pub mod Steps

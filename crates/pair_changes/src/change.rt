@@ -2,11 +2,10 @@
 ghost use Rattle.std.specs.Prelude.{◌≡◌, ◌≤◌, IfOk, IsErrOf};
 ghost use Rattle.net_base.specs.Prefixes.{PlainPrefix};
 ghost use Rattle.policy_base.specs.Policies.{PlainPolicy};
-ghost use Rattle.pair_graph.specs.Room.{PassesRoom};
+ghost use Rattle.pair_graph.specs.Room.{HasPairSteps, PassesRoom};
 ghost use Rattle.compare_base.specs.Cases.{pair_for};
 ghost use Rattle.pair_changes.specs.Changes.{IsPairChange};
 ghost use Rattle.pair_changes.specs.Shown.{ShowsWalks};
-ghost use Rattle.pair_changes.specs.Steps.{HasPairSteps};
 
 use crate::carriers::{carriers_alone, routers_of};
 use crate::kinds::kinds_of;

@@ -9,10 +9,10 @@ use Rattle.std.proofs.lemmas.Option.{slice_get_within}
 use Rattle.list_law.proofs.Items.{from_front, slice_get-there}
 use Rattle.list_law.proofs.Members.{list_any-from_IsIn}
 use Rattle.pair_graph.specs.declared.pair.NodePair.{NodePair}
-use Rattle.pair_graph.specs.Growth.{AreBegun, AreWalks, IsEarlier, IsExtended, IsFound, IsGrown, IsLink, Walks, finder, links}
-
-abbrev at_place : NodePair → ℕ
-at_place x = x.place
+use Rattle.pair_graph.specs.Growth.{AreWalks, IsEarlier, IsExtended, IsFound, IsGrown, IsLink, Walks, finder, links}
+use Rattle.pair_graph.specs.Nexts.{AreNexts, AreNextsBelow}
+use Rattle.pair_graph.specs.Ways.{IsCut}
+use Rattle.pair_graph.proofs.Nexts.{at_place, nexts_between, nexts_from}
 
 -- ---- one step more
 
@@ -40,6 +40,18 @@ pub earlier_next : (m i k l : ℕ) → IsEarlier m i k l → IsEarlier m i k (l 
 earlier_next m i k l (inl lt) = inl lt
 earlier_next m i k l (inr e) = inr (e.0, omega (arith, e.1))
 
+earlier_over : (m i k l c : ℕ) → l ≤ c → IsEarlier m i k l → IsEarlier m i k c
+earlier_over m i k l c le (inl lt) = inl lt
+earlier_over m i k l c le (inr e) = inr (e.0, omega (arith, e.1, le))
+
+-- what was asked between two locations is new
+earlier_between : (m i k l c : ℕ) → IsEarlier m i k c → IsEarlier m i k l ⊎ ((m ≡ k) × (l ≤ i) × (i < c))
+earlier_between m i k l c (inl lt) = inl (inl lt)
+earlier_between m i k l c (inr e) = elim (cases_lt i l) [
+  | inl lt ↦ inl (inr (e.0, lt))
+  | inr ge ↦ inr (e.0, ge, e.1)
+]
+
 pub earlier_turn : (m i k l : ℕ) → IsEarlier m i k l → IsEarlier m i (k + 1) 0
 earlier_turn m i k l (inl lt) = inl (omega (arith, lt))
 earlier_turn m i k l (inr e) = inl (omega (arith, e.0))
@@ -66,36 +78,42 @@ found_later w before steps k l j i n y later found = record { step = found.step;
 -- ---- at the next location
 
 module _ (w : Walks) (starts : ℕ) (pairs : List NodePair) (before : List ℕ) (steps : List (ℕ × ℕ)) (k l : ℕ) (is : IsGrown w starts pairs before steps k l) where
-  -- the pair k doesn't go on there
-  pub grown_skip : (x : NodePair) → slice_get pairs k ≡ Some x → w.next x l ≡ None → IsGrown w starts pairs before steps k (l + 1)
-  grown_skip x at none = record {
+  -- the pair k doesn't go on up to there
+  grown_over : (x : NodePair) (c : ℕ) → slice_get pairs k ≡ Some x → l ≤ c → ((i : ℕ) → l ≤ i → i < c → w.next x i ≡ None) → IsGrown w starts pairs before steps k c
+  grown_over x c at le none = record {
     few = is.few;
     size = is.size;
     begun = is.begun;
     start = is.start;
     all_starts = is.all_starts;
     start_order = is.start_order;
-    link = λ m n h. link_later w pairs k l k (l + 1) m n (λ a b. earlier_next a b k l) (is.link m n h);
+    link = λ m n h. link_later w pairs k l k c m n (λ a b. earlier_over a b k l c le) (is.link m n h);
     all_links = links_there;
-    found = λ n y ge got. found_later w before steps k l k (l + 1) n y (λ a b. earlier_next a b k l) (is.found n y ge got);
+    found = λ n y ge got. found_later w before steps k l k c n y (λ a b. earlier_over a b k l c le) (is.found n y ge got);
     apart = is.apart;
     steps_order = is.steps_order;
     order = is.order;
   }
     where
-      links_there : (m i : ℕ) (z y : NodePair) → slice_get pairs m ≡ Some z → IsEarlier m i k (l + 1) → w.next z i ≡ Some y → (n : ℕ) × links steps m n × (slice_get pairs n ≡ Some y)
-      links_there m i z y got asked goes = elim (earlier_last m i k l asked) [
+      links_there : (m i : ℕ) (z y : NodePair) → slice_get pairs m ≡ Some z → IsEarlier m i k c → w.next z i ≡ Some y → (n : ℕ) × links steps m n × (slice_get pairs n ≡ Some y)
+      links_there m i z y got asked goes = elim (earlier_between m i k l c asked) [
         | inl old ↦ is.all_links m i z y got old goes
         | inr last ↦ absurd (
             let same : Some x ≡ Some z = sym at ∙ ap (slice_get pairs) (sym last.0) ∙ got in
             let one : x ≡ z = cc in
-            let gone : w.next z i ≡ None = ap (w.next z) last.1 ∙ subst (λ p. w.next p l ≡ None) one none in
+            let gone : w.next z i ≡ None = subst (λ p. w.next p i ≡ None) one (none i last.1 last.2) in
             cc)
       ]
 
+  -- it was asked up to the next one to which it goes on
+  pub grown_upto : (x : NodePair) (nexts : List NodePair) (i : ℕ) (y : NodePair) → AreWalks w → slice_get pairs k ≡ Some x → AreNexts (w.next x) nexts → IsCut at_place nexts l i
+      → slice_get nexts i ≡ Some y → IsGrown w starts pairs before steps k y.place
+  grown_upto x nexts i y walks at are cut item =
+      grown_over x y.place at (nexts_from (w.next x) (walks.steps x) nexts are l i y cut item) (nexts_between (w.next x) (walks.steps x) nexts are l i y cut item)
+
   -- the pair k was asked at all locations
-  pub grown_turn : ((x : NodePair) (i : ℕ) (y : NodePair) → w.next x i ≡ Some y → i < l) → IsGrown w starts pairs before steps (k + 1) 0
-  grown_turn within = record {
+  pub grown_turn : (x : NodePair) → slice_get pairs k ≡ Some x → ((i : ℕ) (y : NodePair) → w.next x i ≡ Some y → i < l) → IsGrown w starts pairs before steps (k + 1) 0
+  grown_turn x at within = record {
     few = is.few;
     size = is.size;
     begun = is.begun;
@@ -115,7 +133,9 @@ module _ (w : Walks) (starts : ℕ) (pairs : List NodePair) (before : List ℕ) 
         | inl less ↦ is.all_links m i z y got (inl less) goes
         | inr ge ↦ (
             let here : m ≡ k = omega (arith, lt, ge) in
-            is.all_links m i z y got (inr (here, within z i y goes)) goes)
+            let same : Some z ≡ Some x = sym got ∙ ap (slice_get pairs) here ∙ at in
+            let one : z ≡ x = cc in
+            is.all_links m i z y got (inr (here, within i y (subst (λ p. w.next p i ≡ Some y) one goes))) goes)
       ]
       links_there m i z y got (inr e) goes = absurd (omega (arith, e.1))
 
@@ -277,14 +297,14 @@ module _ (w : Walks) (starts : ℕ) (pairs : List NodePair) (before : List ℕ) 
 -- ---- starts
 
 -- all starts were found, and no pair was asked yet
-pub grown_first : (w : Walks) (pairs : List NodePair) (before : List ℕ) → AreWalks w → length pairs ≤ 4294967000 → length before ≡ length pairs → AreBegun w pairs w.width
+pub grown_first : (w : Walks) (pairs : List NodePair) (before : List ℕ) → AreWalks w → length pairs ≤ 4294967000 → length before ≡ length pairs → AreNexts w.start pairs
     → IsGrown w (length pairs) pairs before [] 0 0
 grown_first w pairs before walks few size begun = record {
   few = few;
   size = size;
   begun = omega arith;
-  start = λ n x lt got. (begun.sound n x got).0;
-  all_starts = λ i x h. (let known = begun.all i x (walks.starts i x h).1 h in (known.0, slice_get_within pairs known.0 x known.1, known.1));
+  start = λ n x lt got. begun.sound n x got;
+  all_starts = λ i x h. (let known = begun.all i x h in (known.0, slice_get_within pairs known.0 x known.1, known.1));
   start_order = λ m n x y lt below. begun.order m n x y lt;
   link = λ m n h. absurd cc;
   all_links = λ m i x y got asked goes. absurd (elim asked [ inl lt ↦ omega (arith, lt) | inr e ↦ omega (arith, e.1) ]);
@@ -300,25 +320,14 @@ grown_first w pairs before walks few size begun = record {
   order = λ m n y z ge lt got_m got_n. absurd (omega (arith, ge, lt, slice_get_within pairs n z got_n));
 }
 
-pub grown_begun : (w : Walks) (starts : ℕ) (pairs : List NodePair) (before : List ℕ) (steps : List (ℕ × ℕ)) → AreWalks w → length pairs ≤ 4294967000 → length before ≡ length pairs → AreBegun w pairs w.width
+pub grown_begun : (w : Walks) (starts : ℕ) (pairs : List NodePair) (before : List ℕ) (steps : List (ℕ × ℕ)) → AreWalks w → length pairs ≤ 4294967000 → length before ≡ length pairs → AreNexts w.start pairs
     → starts ≡ length pairs → steps ≡ [] → IsGrown w starts pairs before steps 0 0
 grown_begun w starts pairs before steps walks few size begun all none =
     subst (λ s. IsGrown w s pairs before steps 0 0) (sym all) (subst (λ xs. IsGrown w (length pairs) pairs before xs 0 0) (sym none) (grown_first w pairs before walks few size begun))
 
--- no start is at the next location
-pub begun_skip : (w : Walks) (pairs : List NodePair) (l : ℕ) → AreBegun w pairs l → w.start l ≡ None → AreBegun w pairs (l + 1)
-begun_skip w pairs l is none = record {
-  sound = λ n x got. (let known = is.sound n x got in (known.0, omega (arith, known.1)));
-  all = λ i x lt h. elim (cases_lt i l) [
-    | inl less ↦ is.all i x less h
-    | inr ge ↦ absurd (let here : i ≡ l = omega (arith, lt, ge) in let gone : w.start i ≡ None = ap w.start here ∙ none in cc)
-  ];
-  order = is.order;
-}
-
--- one is there
-pub begun_step : (w : Walks) (pairs more : List NodePair) (before later : List ℕ) (l t : ℕ) (y : NodePair) → AreBegun w pairs l → w.start l ≡ Some y → y.place ≡ l
-    → IsExtended pairs before 0 y t more later → AreBegun w more (l + 1)
+-- one more start
+pub begun_step : (w : Walks) (pairs more : List NodePair) (before later : List ℕ) (l t : ℕ) (y : NodePair) → AreNextsBelow w.start pairs l → w.start l ≡ Some y → y.place ≡ l
+    → IsExtended pairs before 0 y t more later → AreNextsBelow w.start more (l + 1)
 begun_step w pairs more before later l t y is starts stands ext = record {
   sound = λ n x got. elim (ext.new n x got) [
     | inl old ↦ (let known = is.sound n x old in (known.0, omega (arith, known.1)))
@@ -343,11 +352,4 @@ begun_step w pairs more before later l t y is starts stands ext = record {
       | inr also ↦ absurd (omega (arith, lt, new.0, also.0))
     ])
   ];
-}
-
-pub begun_none : (w : Walks) → AreBegun w [] 0
-begun_none w = record {
-  sound = λ n x got. absurd cc;
-  all = λ i x lt h. absurd (omega (arith, lt));
-  order = λ m n x y lt got_m got_n. absurd cc;
 }

@@ -1,7 +1,10 @@
+pub mod GraphWays
 pub mod Grown
 pub mod Made
+pub mod Nexts
 pub mod Numbered
 pub mod Orders
 pub mod Rooms
-pub mod Tables
+pub mod Turns
 pub mod WalkPairs
+pub mod Ways

@@ -75,7 +75,7 @@ module _ (w : Walks) (starts : ℕ) (pairs : List NodePair) (before : List ℕ) 
       gone : (x : NodePair) → w.start l ≡ Some x → start_at made l ≡ None → ⊥
       gone x goes none =
           let known = is.all_starts l x goes in
-          let here : place_of made known.0 ≡ l = place_made known.0 x known.2 ∙ (walks.starts l x goes).0 in
+          let here : place_of made known.0 ≡ l = place_made known.0 x known.2 ∙ walks.starts l x goes in
           let at = start_in made known.0 (below_start known.0 known.1) in
           let found = find_from (λ n. place_of made n == l) made.starts at.0 known.0 at.1 (eq-eqb (place_of made known.0) l here) in
           let some = found.1 in
@@ -98,7 +98,7 @@ module _ (w : Walks) (starts : ℕ) (pairs : List NodePair) (before : List ℕ) 
       gone y goes none =
           let known = is.all_links m l x y at (inl (omega (arith, slice_get_within pairs m x at, all))) goes in
           let n = known.0 in
-          let here : place_of made n ≡ l = place_made n y known.2 ∙ (walks.steps x l y goes).0 in
+          let here : place_of made n ≡ l = place_made n y known.2 ∙ walks.steps x l y goes in
           let there = step_in made m n known.1 in
           let found = find_from (λ (s : ℕ × ℕ). s.0 == m && place_of made s.1 == l) made.steps there.0 (m, n) there.1 (and_from _ _ (eq-eqb m m refl) (eq-eqb (place_of made n) l here)) in
           let some : step_at made m l ≡ Some found.0.1 = ap (option_map (λ (s : ℕ × ℕ). s.1)) found.1 in
@@ -191,29 +191,29 @@ module _ (w : Walks) (starts : ℕ) (pairs : List NodePair) (before : List ℕ) 
       let here : l ≡ link.to.place = shown.1 ∙ place_made n link.to link.at_to in
       more l j ls ∙ ap (option_and_then (λ y. w.next y l)) (shown_from ls j m link.from ends begin more link.at_from shown.2.2) ∙ ap (w.next link.from) here ∙ link.goes ∙ ap Some to
 
-pub stands_for_both : (g h : PlainGraph) (width starts : ℕ) (pairs : List NodePair) (before : List ℕ) (steps : List (ℕ × ℕ)) (k : ℕ) → AreWalks (walks_of g h width)
-    → length pairs ≤ k → IsGrown (walks_of g h width) starts pairs before steps k 0 → StandsForBoth g h pairs (graph_over pairs starts steps)
-stands_for_both g h width starts pairs before steps k walks all is [] = refl
-stands_for_both g h width starts pairs before steps k walks all is (l ∷ ls) =
-    runs_from (walks_of g h width) starts pairs before steps k walks all is ls l (λ i path. run_pair g h (i ∷ path)) (λ i. refl) (λ i j path. run_pair_next g h i j path)
+pub stands_for_both : (g h : PlainGraph) (starts : ℕ) (pairs : List NodePair) (before : List ℕ) (steps : List (ℕ × ℕ)) (k : ℕ) → AreWalks (walks_of g h)
+    → length pairs ≤ k → IsGrown (walks_of g h) starts pairs before steps k 0 → StandsForBoth g h pairs (graph_over pairs starts steps)
+stands_for_both g h starts pairs before steps k walks all is [] = refl
+stands_for_both g h starts pairs before steps k walks all is (l ∷ ls) =
+    runs_from (walks_of g h) starts pairs before steps k walks all is ls l (λ i path. run_pair g h (i ∷ path)) (λ i. refl) (λ i j path. run_pair_next g h i j path)
 
-pub are_shown : (g h : PlainGraph) (width starts : ℕ) (pairs : List NodePair) (before : List ℕ) (steps : List (ℕ × ℕ)) (k : ℕ) → AreWalks (walks_of g h width)
-    → length pairs ≤ k → IsGrown (walks_of g h width) starts pairs before steps k 0 → AreShown g h pairs (graph_over pairs starts steps)
-are_shown g h width starts pairs before steps k walks all is n x [] at shown = absurd shown
-are_shown g h width starts pairs before steps k walks all is n x (l ∷ ls) at shown =
-    shown_from (walks_of g h width) starts pairs before steps k walks all is ls l n x (λ i path. run_pair g h (i ∷ path)) (λ i. refl) (λ i j path. run_pair_next g h i j path) at shown
+pub are_shown : (g h : PlainGraph) (starts : ℕ) (pairs : List NodePair) (before : List ℕ) (steps : List (ℕ × ℕ)) (k : ℕ) → AreWalks (walks_of g h)
+    → length pairs ≤ k → IsGrown (walks_of g h) starts pairs before steps k 0 → AreShown g h pairs (graph_over pairs starts steps)
+are_shown g h starts pairs before steps k walks all is n x [] at shown = absurd shown
+are_shown g h starts pairs before steps k walks all is n x (l ∷ ls) at shown =
+    shown_from (walks_of g h) starts pairs before steps k walks all is ls l n x (λ i path. run_pair g h (i ∷ path)) (λ i. refl) (λ i j path. run_pair_next g h i j path) at shown
 
-pub is_pair_graph : (g h : PlainGraph) (width starts : ℕ) (pairs : List NodePair) (before : List ℕ) (steps : List (ℕ × ℕ)) (k : ℕ) → AreWalks (walks_of g h width)
-    → length pairs ≤ k → IsGrown (walks_of g h width) starts pairs before steps k 0 → IsPairGraph g h pairs (graph_over pairs starts steps)
-is_pair_graph g h width starts pairs before steps k walks all is = record {
-  runs = stands_for_both g h width starts pairs before steps k walks all is;
-  shown = are_shown g h width starts pairs before steps k walks all is;
+pub is_pair_graph : (g h : PlainGraph) (starts : ℕ) (pairs : List NodePair) (before : List ℕ) (steps : List (ℕ × ℕ)) (k : ℕ) → AreWalks (walks_of g h)
+    → length pairs ≤ k → IsGrown (walks_of g h) starts pairs before steps k 0 → IsPairGraph g h pairs (graph_over pairs starts steps)
+is_pair_graph g h starts pairs before steps k walks all is = record {
+  runs = stands_for_both g h starts pairs before steps k walks all is;
+  shown = are_shown g h starts pairs before steps k walks all is;
   steps = record {
-    goes = step_goes (walks_of g h width) starts pairs before steps k walks all is;
-    all = step_there (walks_of g h width) starts pairs before steps k walks all is;
+    goes = step_goes (walks_of g h) starts pairs before steps k walks all is;
+    all = step_there (walks_of g h) starts pairs before steps k walks all is;
   };
-  size = sym (size_made (walks_of g h width) starts pairs before steps k walks all is);
-  places = place_made (walks_of g h width) starts pairs before steps k walks all is;
-  entered = entered (walks_of g h width) starts pairs before steps k walks all is;
-  order = in_order (walks_of g h width) starts pairs before steps k walks all is;
+  size = sym (size_made (walks_of g h) starts pairs before steps k walks all is);
+  places = place_made (walks_of g h) starts pairs before steps k walks all is;
+  entered = entered (walks_of g h) starts pairs before steps k walks all is;
+  order = in_order (walks_of g h) starts pairs before steps k walks all is;
 }

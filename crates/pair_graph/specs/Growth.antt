@@ -20,18 +20,11 @@ finder before n = slice_index_or before n 0
 pub record Walks : Type 0 where
   pub start : ℕ → Option NodePair
   pub next : NodePair → ℕ → Option NodePair
-  pub width : ℕ
 
--- they start and go on at locations below the width, and lead to pairs there
+-- at a location they lead to a pair there
 pub record AreWalks (w : Walks) : Type 0 where
-  pub starts : (l : ℕ) (x : NodePair) → w.start l ≡ Some x → (x.place ≡ l) × (l < w.width)
-  pub steps : (x : NodePair) (l : ℕ) (y : NodePair) → w.next x l ≡ Some y → (y.place ≡ l) × (l < w.width)
-
--- These pairs are the starts at the locations below l, in order.
-pub record AreBegun (w : Walks) (pairs : List NodePair) (l : ℕ) : Type 0 where
-  pub sound : (n : ℕ) (x : NodePair) → slice_get pairs n ≡ Some x → (w.start x.place ≡ Some x) × (x.place < l)
-  pub all : (i : ℕ) (x : NodePair) → i < l → w.start i ≡ Some x → (n : ℕ) × (slice_get pairs n ≡ Some x)
-  pub order : (m n : ℕ) (x y : NodePair) → m < n → slice_get pairs m ≡ Some x → slice_get pairs n ≡ Some y → x.place < y.place
+  pub starts : (l : ℕ) (x : NodePair) → w.start l ≡ Some x → x.place ≡ l
+  pub steps : (x : NodePair) (l : ℕ) (y : NodePair) → w.next x l ≡ Some y → y.place ≡ l
 
 -- a step leads from one pair to another at the location of the other
 pub record IsLink (w : Walks) (pairs : List NodePair) (k l m n : ℕ) : Type 0 where

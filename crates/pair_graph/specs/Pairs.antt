@@ -25,6 +25,6 @@ abbrev pub run_pair : PlainGraph → PlainGraph → List ℕ → Option NodePair
 run_pair g h [] = None
 run_pair g h (l ∷ ls) = joined l (run g (l ∷ ls)) (run h (l ∷ ls))
 
--- walks of pairs in two graphs, all of whose nodes are at locations below the width
-abbrev pub walks_of : PlainGraph → PlainGraph → ℕ → Walks
-walks_of g h width = record { start = start_pair g h; next = step_pair g h; width = width }
+-- walks of pairs in two graphs
+abbrev pub walks_of : PlainGraph → PlainGraph → Walks
+walks_of g h = record { start = start_pair g h; next = step_pair g h }

@@ -2,9 +2,11 @@
 ghost use Rattle.std.specs.Prelude.{◌≡◌, ◌<◌, ◌≤◌, ◌+◌, [], ℕ, Some, IfErr, IfOk, IsErrOf, OnOk, length, map, option_map, slice_get};
 ghost use Rattle.graph_base.specs.Graphs.{PlainGraph};
 ghost use Rattle.graph_base.specs.declared.graph.TheConstants.{MAX_NODES as most_nodes};
-ghost use Rattle.pair_graph.specs.Growth.{AreBegun, IsExtended, IsGrown};
+ghost use Rattle.pair_graph.specs.declared.pair.NodePair.{NodePair as PlainPair};
+ghost use Rattle.pair_graph.specs.Growth.{IsExtended, IsGrown};
 ghost use Rattle.pair_graph.specs.Made.{pair_node};
-ghost use Rattle.pair_graph.specs.Pairs.{walks_of};
+ghost use Rattle.pair_graph.specs.Nexts.{AreNexts};
+ghost use Rattle.pair_graph.specs.Pairs.{start_pair, step_pair, walks_of};
 ghost use Rattle.pair_graph.specs.Room.{PassesRoom};
 ghost use Rattle.pair_graph.specs.Sides.{AreSides};
 
@@ -58,20 +60,19 @@ impl Growing {
     }
 
     /// Adds the starts of walks, in order of location.
-    pub(crate) fn add_starts(&mut self, sides: &Sides) -> Result<(), PairFault>
-        requires bound { sides.now.width ≤ 65536 }
+    pub(crate) fn add_starts(&mut self, alloc: Global, sides: &Sides) -> Result<(), PairFault>
         requires pairs { self.old.pairs.keys ≡ [] }
         requires before { self.old.before.items ≡ [] }
-        ensures begun { (g h : PlainGraph) → AreSides g h sides.now → OnOk result (AreBegun (walks_of g h sides.now.width) self.new.pairs.keys sides.now.width) }
+        ensures begun { (g h : PlainGraph) → AreSides g h sides.now → OnOk result (AreNexts (start_pair g h) self.new.pairs.keys) }
         ensures few { OnOk result (length self.new.pairs.keys ≤ most_nodes) }
         ensures size { OnOk result (length self.new.before.items ≡ length self.new.pairs.keys) }
         ensures steps { OnOk result (self.new.steps ≡ self.old.steps) }
         ensures errors { IfErr result (λ e. e ≡ PairFault.NoMemory) }
     {
-        for place in 0..sides.width {
-            if let Some(pair) = sides.start(place as u16) {
-                self.number_of(0, pair)?;
-            }
+        let mut starts = Vec::new(alloc);
+        sides.starts(&mut starts)?;
+        for i in 0..starts.len() {
+            self.number_of(0, starts[i])?;
         }
         Ok(())
     }
@@ -83,34 +84,22 @@ impl Growing {
         self.pairs.get_index(number as usize).copied()
     }
 
-    // Adds the step of a pair to a location, where it has one.
-    fn ask(
-        &mut self,
-        number: u32,
-        pair: &NodePair,
-        place: u16,
-        sides: &Sides,
-        room: u32,
-    ) -> Result<(), PairFault>
-        requires within { place < sides.now.width }
+    // Adds the step of the pair with a number to the next one.
+    fn ask(&mut self, number: u32, next: NodePair, room: u32) -> Result<(), PairFault>
         requires few { length self.old.pairs.keys ≤ most_nodes }
         requires size { length self.old.before.items ≡ length self.old.pairs.keys }
         requires room { length self.old.steps.items ≤ room }
-        requires there { slice_get self.old.pairs.keys number ≡ Some pair.now }
-        ensures grown { (g h : PlainGraph) (starts : ℕ) → AreSides g h sides.now
-            → IsGrown (walks_of g h sides.now.width) starts self.old.pairs.keys self.old.before.items self.old.steps.items number place
-            → OnOk result (IsGrown (walks_of g h sides.now.width) starts self.new.pairs.keys self.new.before.items self.new.steps.items number (place + 1)) }
-        ensures many { (g h : PlainGraph) (starts : ℕ) → AreSides g h sides.now
-            → IsGrown (walks_of g h sides.now.width) starts self.old.pairs.keys self.old.before.items self.old.steps.items number place
+        ensures grown { (g h : PlainGraph) (starts : ℕ) (x : PlainPair) → slice_get self.old.pairs.keys number ≡ Some x → step_pair g h x next.place ≡ Some next
+            → IsGrown (walks_of g h) starts self.old.pairs.keys self.old.before.items self.old.steps.items number next.place
+            → OnOk result (IsGrown (walks_of g h) starts self.new.pairs.keys self.new.before.items self.new.steps.items number (next.place + 1)) }
+        ensures many { (g h : PlainGraph) (starts : ℕ) (x : PlainPair) → slice_get self.old.pairs.keys number ≡ Some x → step_pair g h x next.place ≡ Some next
+            → IsGrown (walks_of g h) starts self.old.pairs.keys self.old.before.items self.old.steps.items number next.place
             → IsErrOf result PairFault.TooManySteps → PassesRoom g h room }
         ensures few { OnOk result (length self.new.pairs.keys ≤ most_nodes) }
         ensures size { OnOk result (length self.new.before.items ≡ length self.new.pairs.keys) }
         ensures room { OnOk result (length self.new.steps.items ≤ room) }
-        ensures there { OnOk result (slice_get self.new.pairs.keys number ≡ Some pair.now) }
+        ensures there { (x : PlainPair) → slice_get self.old.pairs.keys number ≡ Some x → OnOk result (slice_get self.new.pairs.keys number ≡ Some x) }
     {
-        let Some(next) = sides.step(pair, place) else {
-            return Ok(());
-        };
         if self.steps.len() >= room as usize {
             return Err(PairFault::TooManySteps);
         }
@@ -125,49 +114,50 @@ impl Growing {
         number: u32,
         pair: &NodePair,
         sides: &Sides,
+        nexts: &mut Vec<NodePair>,
         room: u32,
     ) -> Result<(), PairFault>
-        requires bound { sides.now.width ≤ 65536 }
         requires few { length self.old.pairs.keys ≤ most_nodes }
         requires size { length self.old.before.items ≡ length self.old.pairs.keys }
         requires room { length self.old.steps.items ≤ room }
         requires there { slice_get self.old.pairs.keys number ≡ Some pair.now }
         ensures grown { (g h : PlainGraph) (starts : ℕ) → AreSides g h sides.now
-            → IsGrown (walks_of g h sides.now.width) starts self.old.pairs.keys self.old.before.items self.old.steps.items number 0
-            → OnOk result (IsGrown (walks_of g h sides.now.width) starts self.new.pairs.keys self.new.before.items self.new.steps.items (number + 1) 0) }
+            → IsGrown (walks_of g h) starts self.old.pairs.keys self.old.before.items self.old.steps.items number 0
+            → OnOk result (IsGrown (walks_of g h) starts self.new.pairs.keys self.new.before.items self.new.steps.items (number + 1) 0) }
         ensures few { OnOk result (length self.new.pairs.keys ≤ most_nodes) }
         ensures size { OnOk result (length self.new.before.items ≡ length self.new.pairs.keys) }
         ensures many { (g h : PlainGraph) (starts : ℕ) → AreSides g h sides.now
-            → IsGrown (walks_of g h sides.now.width) starts self.old.pairs.keys self.old.before.items self.old.steps.items number 0
+            → IsGrown (walks_of g h) starts self.old.pairs.keys self.old.before.items self.old.steps.items number 0
             → IsErrOf result PairFault.TooManySteps → PassesRoom g h room }
         ensures room { OnOk result (length self.new.steps.items ≤ room) }
     {
-        for place in 0..sides.width {
-            self.ask(number, pair, place as u16, sides, room)?;
+        sides.steps(pair, nexts)?;
+        for i in 0..nexts.len() {
+            self.ask(number, nexts[i], room)?;
         }
         Ok(())
     }
 
     /// Adds all pairs that walks reach, with at most so many steps.
-    pub(crate) fn walk(&mut self, sides: &Sides, room: u32) -> Result<(), PairFault>
-        requires bound { sides.now.width ≤ 65536 }
+    pub(crate) fn walk(&mut self, alloc: Global, sides: &Sides, room: u32) -> Result<(), PairFault>
         requires few { length self.old.pairs.keys ≤ most_nodes }
         requires size { length self.old.before.items ≡ length self.old.pairs.keys }
         requires no_steps { self.old.steps.items ≡ [] }
         ensures grown { (g h : PlainGraph) (starts : ℕ) → AreSides g h sides.now
-            → IsGrown (walks_of g h sides.now.width) starts self.old.pairs.keys self.old.before.items self.old.steps.items 0 0
+            → IsGrown (walks_of g h) starts self.old.pairs.keys self.old.before.items self.old.steps.items 0 0
             → OnOk result ((k : ℕ) × (length self.new.pairs.keys ≤ k)
-            × IsGrown (walks_of g h sides.now.width) starts self.new.pairs.keys self.new.before.items self.new.steps.items k 0) }
+            × IsGrown (walks_of g h) starts self.new.pairs.keys self.new.before.items self.new.steps.items k 0) }
         ensures many { (g h : PlainGraph) (starts : ℕ) → AreSides g h sides.now
-            → IsGrown (walks_of g h sides.now.width) starts self.old.pairs.keys self.old.before.items self.old.steps.items 0 0
+            → IsGrown (walks_of g h) starts self.old.pairs.keys self.old.before.items self.old.steps.items 0 0
             → IsErrOf result PairFault.TooManySteps → PassesRoom g h room }
         ensures room { OnOk result (length self.new.steps.items ≤ room) }
     {
+        let mut nexts = Vec::new(alloc);
         for number in 0..u32::MAX {
             let Some(pair) = self.pair(number) else {
                 return Ok(());
             };
-            self.ask_all(number, &pair, sides, room)?;
+            self.ask_all(number, &pair, sides, &mut nexts, room)?;
         }
         Err(PairFault::NoMemory)
     }

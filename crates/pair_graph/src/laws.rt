@@ -7,6 +7,7 @@ ghost use Rattle.pair_graph.specs.declared.pair.NodePair.{NodePair as PlainPair}
 ghost use Rattle.pair_graph.specs.Made.{IsPairGraph};
 ghost use Rattle.pair_graph.specs.Order.{ComesBefore, IsInOrder};
 ghost use Rattle.pair_graph.specs.Pairs.{run_pair};
+ghost use Rattle.pair_graph.specs.Room.{HasPairSteps, PassesRoom};
 
 /// In a graph in order nodes are shown by walks in the order of their numbers.
 pub fn shown_walks_are_in_order()
@@ -26,4 +27,10 @@ pub fn first_nodes_show_first_walks()
         → IsGraph p → IsPairGraph g h pairs p → IsShownWalk p n walk
         → ((m : ℕ) (z : PlainPair) → m < n → slice_get pairs m ≡ Some z → is_so z ≡ false)
         → run_pair g h other ≡ Some y → IsTrue (is_so y) → (walk ≡ other) ⊎ ComesBefore walk other }
+{}
+
+/// The count of steps of the graph of pairs is one thing: the two graphs determine it. It is more than every room that they pass.
+pub fn steps_are_counted_once()
+    ensures one { (g h : PlainGraph) (m n : ℕ) → HasPairSteps g h m → HasPairSteps g h n → m ≡ n }
+    ensures room { (g h : PlainGraph) (count room : ℕ) → HasPairSteps g h count → PassesRoom g h room → room < count }
 {}

@@ -10,11 +10,13 @@
 //! by which a node is shown is then the first of the shortest ones to it (`shown_walk_is_first`). It goes back over the node from which
 //! each was found, which is kept, so that showing many nodes costs no more than their walks.
 //!
-//! Each graph is first put into two tables (`side`): the start at each location, and the step of each node to each location. Then asking
-//! a pair at a location takes two look-ups, and the order of locations comes by itself. There may be as many pairs as the product of both
-//! counts of nodes, so the caller says how many steps there is room for.
+//! The starts and the steps of each graph are first put in order of location (`side`), which they mostly are. Then the steps of a pair are
+//! those of its two nodes, gone over side by side (`merging`): so the time grows with the steps of the pairs. There may be as many pairs as
+//! the product of both counts of nodes, so the caller says how many steps there is room for. How many there are is said of the two graphs
+//! alone (`HasPairSteps`): in so many ways walks of pairs go on from a pair to a location. So it is one number, and it tells whether there
+//! is room (`steps_are_counted_once`).
 //!
-//! It is made to compare two policies; no command uses it yet. The two graphs need no rules but those that each graph keeps.
+//! It is made to compare two policies. The two graphs need no rules but those that each graph keeps.
 //!
 //! Compiling doesn't need it.
 //!
@@ -24,14 +26,20 @@
 mod fault;
 mod growing;
 mod laws;
+mod merging;
 mod pair;
 mod pairs;
 mod product;
+mod runs;
 mod side;
 mod sides;
+mod way;
 
 pub use fault::PairFault;
-pub use laws::{first_nodes_show_first_walks, shown_walk_is_first, shown_walks_are_in_order};
+pub use laws::{
+    first_nodes_show_first_walks, shown_walk_is_first, shown_walks_are_in_order,
+    steps_are_counted_once,
+};
 pub use pair::NodePair;
 pub use pairs::PairGraph;
 pub use product::pair_graph;

@@ -5,7 +5,7 @@ ghost use Rattle.graph_base.specs.Graphs.{PlainGraph};
 ghost use Rattle.pair_graph.specs.Growth.{AreWalks, IsGrown, Walks};
 ghost use Rattle.pair_graph.specs.Made.{IsPairGraph};
 ghost use Rattle.pair_graph.specs.Pairs.{walks_of};
-ghost use Rattle.pair_graph.specs.Room.{PassesRoom};
+ghost use Rattle.pair_graph.specs.Room.{HasPairSteps, PassesRoom};
 
 use crate::fault::PairFault;
 use crate::growing::Growing;
@@ -29,8 +29,8 @@ fn numbers(alloc: Global, count: u32) -> Result<List<u32>, AllocError>
 // The graph of the pairs that were found, of which so many are starts.
 fn graph_of(alloc: Global, growing: Growing, starts: u32) -> Result<PairGraph, AllocError>
     requires { (w : Walks) × (k : ℕ) × AreWalks w × (length growing.pairs.keys ≤ k) × IsGrown w starts growing.pairs.keys growing.before.items growing.steps.items k 0 }
-    ensures graph { (g h : PlainGraph) (width k : ℕ) → AreWalks (walks_of g h width) → length growing.pairs.keys ≤ k
-        → IsGrown (walks_of g h width) starts growing.pairs.keys growing.before.items growing.steps.items k 0 → IfOk result (λ p. IsPairGraph g h p.pairs p.graph) }
+    ensures graph { (g h : PlainGraph) (k : ℕ) → AreWalks (walks_of g h) → length growing.pairs.keys ≤ k
+        → IsGrown (walks_of g h) starts growing.pairs.keys growing.before.items growing.steps.items k 0 → IfOk result (λ p. IsPairGraph g h p.pairs p.graph) }
     ensures steps { IfOk result (λ p. p.graph.steps ≡ growing.steps.items) }
 {
     let starts = numbers(alloc, starts)?;
@@ -53,14 +53,15 @@ pub fn pair_graph(
     room: u32,
 ) -> Result<PairGraph, PairFault>
     ensures graph { IfOk result (λ p. IsPairGraph first.now second.now p.pairs p.graph) }
+    ensures steps { IfOk result (λ p. HasPairSteps first.now second.now (length p.graph.steps)) }
     ensures room { IfOk result (λ p. length p.graph.steps ≤ room) }
     ensures many { IsErrOf result PairFault.TooManySteps → PassesRoom first.now second.now room }
 {
     let sides = Sides::new(alloc, first, second)?;
     let mut growing = Growing::new(alloc);
-    growing.add_starts(&sides)?;
+    growing.add_starts(alloc, &sides)?;
     let starts = growing.len();
-    growing.walk(&sides, room)?;
+    growing.walk(alloc, &sides, room)?;
     let graph = graph_of(alloc, growing, starts)?;
     Ok(graph)
 }

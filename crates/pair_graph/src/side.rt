@@ -1,125 +1,103 @@
 //! One of two graphs, by location.
-ghost use Rattle.std.specs.Prelude.{◌≡◌, ◌<◌, ◌≤◌, ◌==◌, ◌+◌, ◌*◌, ℕ, IfOk, length, option_and_then};
-ghost use Rattle.graph_base.specs.Graphs.{IsGraph, PlainGraph};
-ghost use Rattle.graph_base.specs.Least.{or_else};
-ghost use Rattle.graph_base.specs.Runs.{place_of, start_at, step_at};
-ghost use Rattle.pair_graph.specs.Sides.{AreStarts, AreSteps, IsSide, IsWithin, entry};
+ghost use Rattle.std.specs.Prelude.{◌≡◌, ℕ, IfOk, filter, option_and_then};
+ghost use Rattle.graph_base.specs.Graphs.{PlainGraph};
+ghost use Rattle.graph_base.specs.Runs.{start_at, step_at};
+ghost use Rattle.pair_graph.specs.Ways.{AreInOrder, AreLow, AreRuns, AreStarts, AreSteps, comes_from, taken};
 
+use crate::runs::{begins_of, run_of};
+use crate::way::{Way, sort_by_place, sort_by_turn};
 use graph_base::Graph;
-use net_base::Loc;
 use std::alloc::{AllocError, Global};
 
-/// Where walks start in a graph and where its steps lead, each by location.
+/// Where walks start in a graph and where its steps lead, each in order of location.
 #[derive(Drop)]
 pub(crate) struct Side {
-    /// One more than the greatest location.
-    width: u32,
-    /// For each location the start there.
-    starts: Vec<Option<u32>>,
-    /// For each node a row with a place for each location: the node to which it steps there.
-    steps: Vec<Option<u32>>,
+    /// The starts.
+    starts: Vec<Way>,
+    /// The steps, in order of the nodes that step.
+    ways: Vec<Way>,
+    /// For each node where its steps begin, and where those of the last one end.
+    begins: Vec<usize>,
+    ghost starts_order: { AreInOrder starts.items },
+    ghost order: { (n : ℕ) → AreInOrder (filter (comes_from n) ways.items) },
+    ghost runs: { AreRuns ways.items begins.items },
 }
 
-// What a table has at a place, if anything.
-fn at(table: &[Option<u32>], place: usize) -> Option<u32>
-    ensures { result ≡ entry table.now place }
+// The starts of a graph.
+fn starts_of(alloc: Global, graph: &Graph) -> Result<Vec<Way>, AllocError>
+    ensures { IfOk result (λ ways. AreStarts graph.now ways.items) }
 {
-    *table.get(place)?
-}
-
-// Notes a number at a place of a table, where none is noted there.
-fn note(table: &mut Vec<Option<u32>>, place: usize, number: u32)
-    requires { place < length table.old.items }
-    ensures noted { (k : ℕ) → entry table.new.items k ≡ or_else (entry table.old.items k) (place == k) number }
-    ensures size { length table.new.items ≡ length table.old.items }
-{
-    if table[place].is_none() {
-        table[place] = Some(number);
+    let starts = graph.starts();
+    let mut ways = Vec::with_capacity(alloc, starts.len())?;
+    for i in 0..starts.len() {
+        let to = starts[i];
+        let place = graph.location(to).number();
+        ways.push(Way { from: 0, place, to })?;
     }
+    Ok(ways)
 }
 
-// A width that has room for one more location.
-fn widened(width: u32, place: Loc) -> u32
-    requires { width ≤ 65536 }
-    ensures kept { width ≤ result }
-    ensures within { place < result }
-    ensures bound { result ≤ 65536 }
+// The steps of a graph.
+fn steps_of(alloc: Global, graph: &Graph) -> Result<Vec<Way>, AllocError>
+    ensures low { IfOk result (λ ways. AreLow ways.items) }
+    ensures steps { IfOk result (λ ways. AreSteps graph.now ways.items) }
 {
-    let number = place.number();
-    let past = number as u32 + 1;
-    if width < past { past } else { width }
-}
-
-/// One more than the greatest location of a node.
-pub(crate) fn width_of(graph: &Graph) -> u32
-    ensures within { IsWithin graph.now result }
-    ensures bound { result ≤ 65536 }
-    ensures rules { IsGraph graph.now }
-{
-    let mut width = 0;
-    let nodes = graph.nodes();
-    for i in 0..nodes.len() {
-        width = widened(width, nodes[i].loc);
+    let steps = graph.steps();
+    let mut ways = Vec::with_capacity(alloc, steps.len())?;
+    for i in 0..steps.len() {
+        let (from, to) = steps[i];
+        let place = graph.location(to).number();
+        ways.push(Way { from, place, to })?;
     }
-    width
-}
-
-// The start at each location.
-fn starts_of(alloc: Global, graph: &Graph, width: u32) -> Result<Vec<Option<u32>>, AllocError>
-    requires { IsWithin graph.now width }
-    ensures { IfOk result (λ table. AreStarts graph.now table.items) }
-{
-    let mut table = vec![in alloc; None; width as usize]?;
-    for start in graph.starts() {
-        note(&mut table, graph.location(*start).number() as usize, *start);
-    }
-    Ok(table)
-}
-
-// The steps of each node, by location.
-fn steps_of(alloc: Global, graph: &Graph, width: u32) -> Result<Vec<Option<u32>>, AllocError>
-    requires { IsWithin graph.now width }
-    ensures { IfOk result (λ table. AreSteps graph.now width table.items) }
-{
-    let mut table = vec![in alloc; None; graph.nodes().len() * width as usize]?;
-    for (from, to) in graph.steps() {
-        let place = *from as usize * width as usize + graph.location(*to).number() as usize;
-        note(&mut table, place, *to);
-    }
-    Ok(table)
+    Ok(ways)
 }
 
 impl Side {
-    /// This side of the graph, where all its nodes are at locations below a width.
-    pub(crate) fn new(alloc: Global, graph: &Graph, width: u32) -> Result<Side, AllocError>
-        requires { IsWithin graph.now width }
-        ensures side { IfOk result (λ side. IsSide graph.now side) }
-        ensures width { IfOk result (λ side. side.width ≡ width) }
+    ghost use Rattle.pair_graph.specs.Sides.{IsSide};
+
+    /// This side of a graph.
+    pub(crate) fn new(alloc: Global, graph: &Graph) -> Result<Side, AllocError>
+        ensures { IfOk result (IsSide graph.now) }
     {
-        let starts = starts_of(alloc, graph, width)?;
-        let steps = steps_of(alloc, graph, width)?;
+        let mut starts = starts_of(alloc, graph)?;
+        sort_by_place(&mut starts)?;
+        let mut ways = steps_of(alloc, graph)?;
+        sort_by_turn(&mut ways)?;
+        let begins = begins_of(alloc, graph.nodes().len() as u32, &ways)?;
         Ok(Side {
-            width,
             starts,
-            steps,
+            ways,
+            begins,
         })
     }
 
-    /// The start at a location.
-    pub(crate) fn start(&self, place: u16) -> Option<u32>
-        ensures { (g : PlainGraph) → IsSide g self.now → result ≡ start_at g place }
+    /// The starts, in order of location.
+    pub(crate) fn starts(&self) -> &[Way]
+        ensures order { AreInOrder result.now }
+        ensures taken { (g : PlainGraph) (l : ℕ) → IsSide g self.now → taken result.now l ≡ start_at g l }
     {
-        at(&self.starts, place as usize)
+        self.starts.as_slice()
     }
 
-    /// The node to which a node steps at a location.
-    pub(crate) fn step(&self, node: Option<u32>, place: u16) -> Option<u32>
-        ensures { (g : PlainGraph) → IsSide g self.now → place < self.now.width → result ≡ option_and_then (λ n. step_at g n place) node }
+    // The steps of a node, in order of location.
+    fn ways_of(&self, node: u32) -> &[Way]
+        ensures order { AreInOrder result.now }
+        ensures taken { (g : PlainGraph) (l : ℕ) → IsSide g self.now → taken result.now l ≡ step_at g node l }
     {
-        let node = node?;
-        at(
-            &self.steps,
-            node as usize * self.width as usize + place as usize,
-        )
+        if node as usize + 1 < self.begins.len() {
+            return run_of(&self.ways, &self.begins, node);
+        }
+        &[]
+    }
+
+    /// The steps of a node, in order of location; and none where there is no node.
+    pub(crate) fn steps(&self, node: Option<u32>) -> &[Way]
+        ensures order { AreInOrder result.now }
+        ensures taken { (g : PlainGraph) (l : ℕ) → IsSide g self.now → taken result.now l ≡ option_and_then (λ n. step_at g n l) node }
+    {
+        match node {
+            Some(node) => self.ways_of(node),
+            None => &[],
+        }
     }
 }

@@ -19,4 +19,5 @@ mod OneTree
 mod NothingBroken
 mod FineItems
 mod FewItems
+pub mod OriginSets
 pub mod Texts

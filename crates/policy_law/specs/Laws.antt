@@ -1,8 +1,9 @@
 -- That the reading of policies meets these definitions.
 use Rattle.std.specs.Prelude.{◌≡◌, ℕ, ◌<◌, List, length, map, None, Ok}
 use Rattle.std.specs.List.{list_any}
+use Rattle.list_law.specs.Members.{IsIn}
 use Rattle.net_base.specs.Network.{PlainNet}
-use Rattle.net_base.specs.Sets.{holds}
+use Rattle.net_base.specs.Sets.{IsWords, holds}
 use Rattle.net_base.specs.Steps.{◌>>=◌}
 use Rattle.policy_tokens.specs.declared.fault.PolicyFault.TheVariants.{Unknown}
 use Rattle.policy_tokens.specs.declared.token.Token.{Token}
@@ -16,6 +17,7 @@ use Rattle.grammar_law.specs.Grammar.{IsRanked, IsPolicy}
 use Rattle.policy_rules.specs.Checks.{text, all_learnt}
 use Rattle.policy_rules.specs.KnownNames.{Names, set_named, net_names}
 use Rattle.policy_rules.specs.Ranks.{broken_rank}
+use Rattle.policy_base.specs.declared.policy.Origin.{Origin}
 use Rattle.policy_base.specs.Policies.{PlainPolicy}
 use Rattle.policy_values.specs.Built.{ranking_of_steps}
 use Rattle.policy_parser.specs.Spelled.{spelled}
@@ -82,3 +84,7 @@ MeantPoliciesAreSpelled = (net : PlainNet) (bytes : List ℕ) (p : PlainPolicy) 
 -- a text means one policy at most
 abbrev pub TextsMeanOnePolicy : Type 0
 TextsMeanOnePolicy = (net : PlainNet) (bytes : List ℕ) (p q : PlainPolicy) → IsPolicyTextOf net bytes p → IsPolicyTextOf net bytes q → p ≡ q
+
+-- The locations of each `originate` item are a set as the program keeps it.
+abbrev pub OriginsAreSets : Type 0
+OriginsAreSets = (net : PlainNet) (bytes : List ℕ) (p : PlainPolicy) (o : Origin) → IsPolicyTextOf net bytes p → IsIn p.origins o → IsWords o.at

@@ -20,6 +20,7 @@
 //! | `first_rank_is_told`, `names_have_their_sense`, `expressions_have_their_value` | what single passes of the code come to |
 //! | `ranks_stand_beside_calls`, `unknown_names_come_first` | small cases, worked: where a `>>` may stand, and which rule is told |
 //! | `lists_hold_their_names` | a list of names has exactly the locations of its names |
+//! | `origins_are_sets` | the routers of an `originate` item are a set as the program keeps it |
 //!
 //! Compiling doesn't need it.
 //!
@@ -39,6 +40,7 @@ ghost use Rattle.policy_law.specs.Laws.{
   FirstRankIsTold,
   NamesHaveTheirSense,
   ListsHoldTheirNames,
+  OriginsAreSets,
   ExpressionsHaveTheirValue,
   PlacesAreInOrder,
   TextsSpellTheirMeaning,
@@ -70,6 +72,11 @@ pub fn names_have_their_sense()
 /// A list of names has exactly the locations that some name of it stands for.
 pub fn lists_hold_their_names()
     ensures { ListsHoldTheirNames }
+{}
+
+/// The routers of each `originate` item are a set as the program keeps it, so that two such sets are one where they have the same routers.
+pub fn origins_are_sets()
+    ensures { OriginsAreSets }
 {}
 
 /// The steps of an expression make the value of the expression.

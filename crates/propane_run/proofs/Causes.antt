@@ -8,7 +8,7 @@ use Rattle.propane_run.specs.Words.{words_are, names_read, usage}
 use Rattle.run_base.specs.Reading.{Holds, IsAmong, IsStop, AllHeld, unread, too_long}
 use Rattle.propane_run.specs.Run.{IsAnswerOf, Comes, Job}
 use Rattle.run_base.specs.Said.{IsGiven, Said, text, line, failing, no_memory}
-use Rattle.propane_run.proofs.Dispatch.{form_is}
+use Rattle.propane_run.proofs.Dispatch.{job_is}
 use Rattle.propane_run.proofs.Roles.{Judges, Refuses}
 use Rattle.run_base.proofs.Jobs.{IsJobSaid, in_text, in_line, in_refusal, in_failing, status_is}
 use Rattle.run_base.proofs.Told.{reads_all}
@@ -50,7 +50,7 @@ module _ (holds : Holds) (rose : List ℕ → Type 0) (words : List (List ℕ)) 
 
     given : (bs : List (List ℕ)) → AllHeld holds (names_read words c) bs → IsGiven (Job c bs) what → Cause c what what.status
     given bs held (inl m) = by no_memory m m
-    given bs held (inr says) = came bs held says (form_is c bs what says)
+    given bs held (inr says) = came bs held says ((job_is c).form bs what says)
 
   why_said : (o : Option Command) (what : Said) → words_are words ≡ o → IsAnswerOf holds rose words o what → Why o what what.status
   why_said None what asks answer = (status_is what usage answer, answer)

@@ -2,8 +2,8 @@
 use Rattle.std.proofs.Common.{◌≡◌, ℕ, List, Some, Result, sym, ◌∙◌}
 use Rattle.help_texts.specs.Pages.{help_text, version_text}
 use Rattle.run_base.specs.Reading.{Holds}
-use Rattle.run_base.specs.Said.{Said, text}
-use Rattle.run_base.proofs.Jobs.{IsJob, IsJobSaid, in_text}
+use Rattle.run_base.specs.Said.{text}
+use Rattle.run_base.proofs.Jobs.{IsJob, in_text}
 use Rattle.net_base.specs.Network.{PlainNet}
 use Rattle.policy_base.specs.Policies.{PlainPolicy}
 use Rattle.config_base.specs.Configs.{PlainConfig}
@@ -30,7 +30,7 @@ use Rattle.judging_jobs.proofs.RouteMapLaws.{route_map_job}
 use Rattle.judging_jobs.proofs.MigrateLaws.{migrate_job}
 use Rattle.judging_jobs.proofs.ConfigMapLaws.{config_maps_job}
 use Rattle.stage_jobs.proofs.BetweenLaws.{between_job}
-use Rattle.compare_jobs.proofs.CompareLaws.{compare_form}
+use Rattle.compare_jobs.proofs.CompareLaws.{compare_job}
 use Rattle.renewal_jobs.proofs.RenewalLaws.{renewal_job}
 use Rattle.renewal_jobs.proofs.ReuseLaws.{reuse_job}
 use Rattle.report_jobs.proofs.ReplayLaws.{replay_job}
@@ -51,7 +51,7 @@ use Rattle.propane_run.specs.declared.command.Outlook.{Outlook}
 use Rattle.propane_run.specs.declared.command.Outlook.TheVariants.{Replay, Drain, WhatIf, Multipath}
 use Rattle.propane_run.specs.Outlooks.{WritesAfter, WritesUnder}
 use Rattle.propane_run.specs.Asked.{AsksAlso, AsksFor, IsFor}
-use Rattle.propane_run.specs.Run.{Job, SaysOneThing}
+use Rattle.propane_run.specs.Run.{Job}
 use Rattle.propane_run.specs.Words.{names_read, words_are}
 use Rattle.propane_run.proofs.Roles.{Compiles, Judges, Refuses}
 use Rattle.propane_run.proofs.Asking.{asks_also, asks_for, spells, spells_also}
@@ -72,34 +72,29 @@ after_is Trace = trace_job (Unit {0}) ⊥ tt
 after_is Settle = settle_job (Unit {0}) ⊥ tt
 after_is Waiting = waiting_job (Unit {0}) ⊥ tt
 
--- what it says has a form, and is one thing, where that is said
-pub job_is : (c : Command) → SaysOneThing c → IsJob (Refuses c) (Judges c) (Job c)
-job_is Compile pinned = written_job part.Config (Unit {0}) ⊥ tt
-job_is Evidence pinned = written_job part.Evidence (Unit {0}) ⊥ tt
-job_is Check pinned = check_job ⊥ (Unit {0}) tt
-job_is Explain pinned = explain_job ⊥ ⊥
-job_is (Sample n) pinned = sample_job n (Unit {0}) ⊥ tt
-job_is Migrate pinned = migrate_job ⊥ ⊥
-job_is (Impact x) pinned = impact_job x (Unit {0}) ⊥ tt
-job_is RouteMap pinned = route_map_job (Unit {0}) ⊥ tt
-job_is CheckMap pinned = check_map_job (Unit {0}) (Unit {0}) tt tt
-job_is Lint pinned = lint_job (Unit {0}) ⊥ tt
-job_is Audit pinned = audit_job ⊥ (Unit {0}) tt
-job_is (Help topic) pinned = text_job (help_text topic) ⊥ ⊥
-job_is Version pinned = text_job version_text ⊥ ⊥
-job_is Promises pinned = promises_job (Unit {0}) ⊥ tt
-job_is Maps pinned = config_maps_job (Unit {0}) ⊥ tt
-job_is (Between stage) pinned = between_job stage (Unit {0}) (Unit {0}) tt tt
-job_is (Renew part) pinned = renewal_job part (Unit {0}) ⊥ tt
-job_is (Reuse part) pinned = reuse_job part (Unit {0}) ⊥ tt
-job_is Compare pinned = absurd pinned
-job_is (Under outlook) pinned = under_is outlook
-job_is (After course) pinned = after_is course
-
--- that of every command has a form
-pub form_is : (c : Command) (bs : List (List ℕ)) (what : Said) → Job c bs what → IsJobSaid (Refuses c) (Judges c) what
-form_is Compare = compare_form (Unit {0}) ⊥ tt
-form_is c = (job_is c tt).form
+-- what it says has a form, and is one thing
+pub job_is : (c : Command) → IsJob (Refuses c) (Judges c) (Job c)
+job_is Compile = written_job part.Config (Unit {0}) ⊥ tt
+job_is Evidence = written_job part.Evidence (Unit {0}) ⊥ tt
+job_is Check = check_job ⊥ (Unit {0}) tt
+job_is Explain = explain_job ⊥ ⊥
+job_is (Sample n) = sample_job n (Unit {0}) ⊥ tt
+job_is Migrate = migrate_job ⊥ ⊥
+job_is (Impact x) = impact_job x (Unit {0}) ⊥ tt
+job_is RouteMap = route_map_job (Unit {0}) ⊥ tt
+job_is CheckMap = check_map_job (Unit {0}) (Unit {0}) tt tt
+job_is Lint = lint_job (Unit {0}) ⊥ tt
+job_is Audit = audit_job ⊥ (Unit {0}) tt
+job_is (Help topic) = text_job (help_text topic) ⊥ ⊥
+job_is Version = text_job version_text ⊥ ⊥
+job_is Promises = promises_job (Unit {0}) ⊥ tt
+job_is Maps = config_maps_job (Unit {0}) ⊥ tt
+job_is (Between stage) = between_job stage (Unit {0}) (Unit {0}) tt tt
+job_is (Renew part) = renewal_job part (Unit {0}) ⊥ tt
+job_is (Reuse part) = reuse_job part (Unit {0}) ⊥ tt
+job_is Compare = compare_job (Unit {0}) ⊥ tt
+job_is (Under outlook) = under_is outlook
+job_is (After course) = after_is course
 
 module _ (holds : Holds) (words : List (List ℕ)) where
   -- of two texts

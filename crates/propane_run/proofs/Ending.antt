@@ -109,7 +109,7 @@ module _ {O E : Type 0} (ot : O → Option (List ℕ)) (of : O → ℕ) (et : E 
     )
     ends Compare gives = λ net old new asks. (
       λ none calm. compare.compared_where holds words net old new asks ot of et ef out out' err err' ended none calm gives,
-      λ e of_case past calm. compare.limited_where holds words net old new asks ot of et ef out out' err err' ended e of_case past calm gives,
+      λ e past calm. compare.limited_where holds words net old new asks ot of et ef out out' err err' ended e past calm gives,
     )
     ends (Under outlook) gives = compiling (Under outlook) tt gives
     ends (After course) gives = compiling (After course) tt gives

@@ -8,7 +8,7 @@ use Rattle.run_base.specs.Said.{Calm, Delivered, IsGiven, Said}
 use Rattle.run_base.proofs.Jobs.{IsJobSaid, in_text, in_line, in_refusal, in_failing, status_is}
 use Rattle.propane_run.specs.declared.command.Command.{Command}
 use Rattle.propane_run.specs.Run.{Job, Ran}
-use Rattle.propane_run.proofs.Dispatch.{form_is}
+use Rattle.propane_run.proofs.Dispatch.{job_is}
 
 module _ (before now : ℕ) where
   -- ---- of a job, whose names were read
@@ -26,7 +26,7 @@ module _ (before now : ℕ) where
 
     pub given_calmly : (c : Command) (bs : List (List ℕ)) → IsGiven (Job c bs) what → FailedAs what.status before now
     given_calmly c bs (inl m) = by NoMemory (status_is what _ m) none
-    given_calmly c bs (inr says) = said_calmly (form_is c bs what says)
+    given_calmly c bs (inr says) = said_calmly ((job_is c).form bs what says)
 
   -- ---- of a run
 

@@ -8,7 +8,7 @@ use Rattle.case_graphs.specs.Limits.{AreAllWithin, compile_refusal}
 use Rattle.case_graphs.specs.declared.refusal.LimitRefusal.{LimitRefusal}
 use Rattle.compile_jobs.specs.Compiled.{IsCompiled, IsRefusedFor}
 use Rattle.compare_jobs.specs.Compared.{IsPastLimit as IsComparisonPast}
-use Rattle.compare_jobs.specs.Refused.{IsOfCase, refusal_line as comparison_line}
+use Rattle.compare_jobs.specs.Refused.{refusal_line as comparison_line}
 use Rattle.comparison_maker.specs.declared.refusal.ComparisonRefusal.{ComparisonRefusal}
 use Rattle.config_base.specs.Configs.{PlainConfig}
 use Rattle.evidence_base.specs.Made.{PlainCaseEvidence}
@@ -100,6 +100,6 @@ module _ (holds : Holds) (words : List (List ℕ)) (Succeeds Fails : Type 0) (Re
       × (IsOther net policy old olds → Refuses other_line)
   EndsRight Compare = (net : PlainNet) (old new : PlainPolicy) → AsksCompare holds words net old new
       → (((e : ComparisonRefusal) → ¬ IsComparisonPast net old new e) → Succeeds)
-      × ((e : ComparisonRefusal) → IsOfCase e → IsComparisonPast net old new e → Refuses (comparison_line net e))
+      × ((e : ComparisonRefusal) → IsComparisonPast net old new e → Refuses (comparison_line net e))
   EndsRight (Under outlook) = Compiles (Under outlook)
   EndsRight (After course) = Compiles (After course)

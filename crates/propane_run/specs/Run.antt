@@ -55,12 +55,6 @@ Job Compare = comparisons.SaysOfTexts
 Job (Under outlook) = SaysOfThree scenario_line scenario_spelled (WritesUnder outlook)
 Job (After course) = SaysOfThree events_line events_spelled (WritesAfter course)
 
--- This says one thing of the same bytes. `compare` writes one text, but of which pair it is told that the limit on pairs is passed isn't proved
--- to be one thing.
-abbrev pub SaysOneThing : Command → Type 0
-SaysOneThing Compare = ⊥
-SaysOneThing _ = Unit {0}
-
 abbrev pub IsAnswerOf : Holds → (List ℕ → Type 0) → List (List ℕ) → Option Command → Said → Type 0
 IsAnswerOf holds rose words None what = what ≡ usage
 IsAnswerOf holds rose words (Some c) what = ReadsAll holds rose (names_read words c) (λ bs. IsGiven (Job c bs)) what

@@ -2,20 +2,20 @@
 ghost use Rattle.std.specs.Prelude.{◌≡◌, ℕ, List, [], ◌∷◌};
 ghost use Rattle.propane_run.specs.Pairs.{ArePair};
 ghost use Rattle.run_base.specs.Reading.{Holds, SaidOfTold};
-ghost use Rattle.propane_run.specs.Run.{Job, SaysOneThing};
+ghost use Rattle.propane_run.specs.Run.{Job};
 ghost use Rattle.run_base.specs.Said.{Said, text};
 ghost use Rattle.propane_run.specs.Words.{names_read};
 ghost use Rattle.propane_run.specs.declared.command.Command.{Command};
 
-/// A command says one thing of the same bytes. Of `compare` that is a law on its text (`compare_jobs`).
+/// A command says one thing of the same bytes.
 pub fn commands_say_one_thing()
-    ensures { (c : Command) (bs : List (List ℕ)) (one other : Said) → SaysOneThing c → Job c bs one → Job c bs other → one ≡ other }
+    ensures { (c : Command) (bs : List (List ℕ)) (one other : Said) → Job c bs one → Job c bs other → one ≡ other }
 {}
 
 /// So where all that a command reads is told, there is one thing to say: two runs of it, which no fault stops and for
 /// which memory suffices, write the same.
 pub fn told_texts_come_to_one_thing()
-    ensures { (holds : Holds) (words : List (List ℕ)) (c : Command) (one other : Said) → SaysOneThing c
+    ensures { (holds : Holds) (words : List (List ℕ)) (c : Command) (one other : Said)
         → SaidOfTold holds (names_read words c) (Job c) one → SaidOfTold holds (names_read words c) (Job c) other → one ≡ other }
 {}
 

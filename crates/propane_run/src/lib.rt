@@ -19,8 +19,7 @@
 //! written, and the others follow from it. So it stays, though no caller in the repository cites it.
 //!
 //! The laws of a run are proved for any job: that what it says of bytes has one of a few forms and is one thing
-//! (`commands_say_one_thing`, `told_texts_come_to_one_thing`). Of `compare` the first is proved, and that its text
-//! is one thing (`SaysOneThing`).
+//! (`commands_say_one_thing`, `told_texts_come_to_one_thing`).
 //!
 //! It knows nothing of files.
 #![tactic(auto)]

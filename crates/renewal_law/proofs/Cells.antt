@@ -1,5 +1,5 @@
 -- Where nothing is in the way of stages, both configurations do the same with a prefix, or the new one takes over for it.
-use Rattle.std.proofs.Common.{◌≡◌, ◌⊎◌, ℕ, true, List, map, Some, refl, ap, inl, inr}
+use Rattle.std.proofs.Common.{◌≡◌, ℕ, true, List, map, Some, refl, ap, inl, inr}
 use Rattle.std.specs.Prelude.{◌==◌}
 use Rattle.std.proofs.lemmas.Bool.{eq-eqb}
 use Rattle.list_law.specs.Members.{IsIn}
@@ -18,7 +18,6 @@ use Rattle.class_lines.specs.Marks.{prefs_in, prefs_said}
 use Rattle.class_lines.specs.Tables.{by_class}
 use Rattle.rollout_base.specs.Lines.{takes}
 use Rattle.rollout_base.specs.Mixtures.{Part}
-use Rattle.rollout_base.specs.Stages.{SayAlike}
 use Rattle.stage_classes.specs.declared.cell.Cell.{Cell}
 use Rattle.stage_classes.specs.Cells.{cells}
 use Rattle.stage_classes.specs.Laws.{cell_of}
@@ -30,7 +29,7 @@ use Rattle.stage_maker.proofs.Says.{InCell, IsNumber, in_cell_of, in_none, in_on
 use Rattle.stage_check.specs.Laws.{StayOrGoOver}
 use Rattle.stage_check.proofs.Free.{cells_serve, free_pairs_stay_or_go_over}
 use Rattle.stage_check.proofs.NoTags.{routers_in, sessions_in}
-use Rattle.renewal_law.specs.Change.{TakesOver}
+use Rattle.renewal_law.specs.Change.{StaysOrGoesOver}
 use Rattle.renewal_law.specs.Laws.{PrefixesStayOrGoOver}
 
 -- a preference that a line of a class gives is among those of its lines
@@ -50,7 +49,7 @@ class_pref net config p n lawful number r u path tag q e =
 
 module _ (net : PlainNet) (p : PlainPrefix) (old new : Part) (lawful : IsConfig old.config) (lawful' : IsConfig new.config) where
   goes : (c : Cell) → some_contains c.patterns p ≡ true → IsNumber old.config p c.first → IsNumber new.config p c.second → AreAlike old.config.routers new.config.routers → StayOrGoOver old.config new.config c
-      → SayAlike net p old.config new.config ⊎ TakesOver net p old new
+      → StaysOrGoesOver net p old new
   goes c contains one two alike (inl same) = inl (say_alike c.patterns c.first c.second net old.config new.config alike same p contains lawful lawful' one two)
   goes c contains one two alike (inr over) = inr (record {
     apart = are_apart net p old new c.first c.second lawful lawful' one two over.0;
@@ -67,7 +66,7 @@ prefixes_stay_or_go_over net p old new lawful lawful' free prefix =
     let may = cells_serve old.config new.config lawful lawful' free in
     by may.alike (in_cell_of (between old new) old.config new.config p (cell_of (between old new) p) (class_of old.config p) (class_of new.config p) refl refl refl (may.pairs p prefix))
   where
-    by : AreAlike old.config.routers new.config.routers → InCell (between old new) old.config new.config p → SayAlike net p old.config new.config ⊎ TakesOver net p old new
+    by : AreAlike old.config.routers new.config.routers → InCell (between old new) old.config new.config p → StaysOrGoesOver net p old new
     by alike (in_none none no_old no_new) = inl (none_alike net old new p no_old no_new)
     by alike (in_one c at one two) =
         let place = find_parts (λ (d : Cell). some_contains d.patterns p) (between old new) c at in

@@ -1,5 +1,5 @@
 -- A preference that a line gives stands in the configuration.
-use Rattle.std.proofs.Common.{◌≡◌, ℕ, Bool, true, false, cond, List, Option, Some, None, refl, ap, ◌∙◌, subst}
+use Rattle.std.proofs.Common.{◌≡◌, ℕ, List, Some, ap, ◌∙◌, subst}
 use Rattle.std.specs.Prelude.{option_and_then}
 use Rattle.std.specs.List.{find}
 use Rattle.list_law.specs.Members.{IsIn}
@@ -14,11 +14,8 @@ use Rattle.config_base.specs.Configs.{PlainConfig}
 use Rattle.config_base.specs.Lines.{block_at, class_of, import_of, is_looped, line_by, router_at}
 use Rattle.evidence_law.proofs.Spelled.{imported_by, imports_tag}
 use Rattle.rollout_base.specs.Lines.{takes}
+use Rattle.rollout_mixtures.proofs.Idle.{either_way}
 use Rattle.free_tags.specs.Taken.{pref_of_import, prefs_in, prefs_of_router, prefs_of_session}
-
-either_way : {A : Type 0} (b : Bool) (o : Option A) → cond (cond b false false) None o ≡ o
-either_way true o = refl
-either_way false o = refl
 
 pub taken_pref : (net : PlainNet) (config : PlainConfig) (p : PlainPrefix) (r u : ℕ) (path : List ℕ) (tag : Tag) (q : Tag × ℕ)
     → takes net config p r u path tag ≡ Some q → IsIn (prefs_in config) q.1

@@ -1,5 +1,5 @@
 -- A change of policy while the network runs, with what `check`, `between` and `renew` tell of it.
-use Rattle.std.specs.Prelude.{◌≡◌, ℕ, Bool, false, IsTrue, List}
+use Rattle.std.specs.Prelude.{◌≡◌, ◌⊎◌, ℕ, Bool, false, IsTrue, List}
 use Rattle.net_base.specs.Network.{PlainNet, IsNet, is_peer, is_router}
 use Rattle.net_base.specs.Prefixes.{PlainPrefix}
 use Rattle.policy_base.specs.Policies.{IsPolicyOf}
@@ -10,6 +10,7 @@ use Rattle.evidence_law.specs.Passes.{Passes}
 use Rattle.evidence_renewal.specs.Laws.{IsAbove as AreAllAbove}
 use Rattle.rollout_base.specs.Lines.{AreApart}
 use Rattle.rollout_base.specs.Mixtures.{Part}
+use Rattle.rollout_base.specs.Stages.{SayAlike}
 use Rattle.rollout_law.specs.Standing.{AreDisjoint}
 use Rattle.rollout_mixtures.specs.Between.{IsAbove}
 use Rattle.stage_check.specs.Laws.{AreRollouts}
@@ -32,6 +33,10 @@ pub record IsChange (net : PlainNet) (old new : Part) : Type 0 where
 pub record TakesOver (net : PlainNet) (p : PlainPrefix) (old new : Part) : Type 0 where
   pub apart : AreApart net p old new
   pub above : IsAbove net p old new
+
+-- A prefix stays, as both configurations do the same with it, or the new one takes over for it.
+abbrev pub StaysOrGoesOver : PlainNet → PlainPrefix → Part → Part → Type 0
+StaysOrGoesOver net p old new = SayAlike net p old.config new.config ⊎ TakesOver net p old new
 
 -- Everything of the old configuration is replaced, as where `renew` has no evidence: no tag stands in both, and each new preference is above
 -- each of the old one.

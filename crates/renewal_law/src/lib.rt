@@ -13,11 +13,12 @@
 //! | `changes_are_safe` | nothing is ever held or heard that neither policy allows, and the end is the new outcome; and so back | `IsChange` |
 //! | `prefixes_stay_or_go_over` | each prefix stays, as both do the same with it, or the new one takes over for it | that nothing is in the way of stages |
 //! | `renewals_replace_all` | what `renew` writes without evidence passes, and takes over for each prefix | that it is renewed |
-//! | `changes_come_to_rest` | in between, too, messages come to an end | `IsChange`, `TakesOver` for the prefix, and who announces |
-//! | `resting_changes_are_layered` | what is held then is two layers, each the outcome of its own side | the same |
+//! | `changes_come_to_rest` | in between, too, messages come to an end | `IsChange`, that the prefix stays or goes over, and who announces |
+//! | `resting_prefixes_stay` | of a prefix that stays each router holds then what it holds where all run what it runs | the same |
+//! | `resting_changes_are_layered` | of one for which the new configuration takes over, what is held then is two layers, each the outcome of its own side | the same |
 //!
-//! A prefix that stays is all the time as it was, in whichever phases routers are. Why preferences and tags are apart: one that a line gives stands
-//! in the text (`proofs/Prefs`, `rollout_law`), and among the lines of its class (`proofs/Cells`).
+//! Why preferences and tags are apart: one that a line gives stands in the text (`proofs/Prefs`, `rollout_law`), and among the lines of its class
+//! (`proofs/Cells`).
 //!
 //! Compiling doesn't need it.
 //!
@@ -33,6 +34,7 @@ ghost use Rattle.renewal_law.specs.Laws.{
   RenewalsReplaceAll,
   ReplacementsTakeOver,
   RestingChangesAreLayered,
+  RestingPrefixesStay,
 };
 
 /// From its first load to its last a change is safe, whichever of the four configurations each router runs and loads, and so is the way back.
@@ -61,7 +63,13 @@ pub fn changes_come_to_rest()
     ensures { ChangesComeToRest }
 {}
 
-/// Where no message waits, what routers hold is two layers: the settled outcome of the new side and that of the old side, each right by its
+/// Where no message waits, each router holds of a prefix that stays what it holds in the settled outcome of the policy that it runs. The outcomes of both are
+/// the same but for the own routes of who is an origin by one policy alone; peers have heard what both offer.
+pub fn resting_prefixes_stay()
+    ensures { RestingPrefixesStay }
+{}
+
+/// Where no message waits, what routers hold of a prefix for which the new configuration takes over is two layers: the settled outcome of the new side and that of the old side, each right by its
 /// own policy under its failures.
 pub fn resting_changes_are_layered()
     ensures { RestingChangesAreLayered }

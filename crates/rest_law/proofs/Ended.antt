@@ -1,4 +1,4 @@
--- Messages come to an end on a configured network whose evidence passes.
+-- On a configured network whose evidence passes routers settle in an order, and where no message waits it is at rest.
 use Rattle.std.proofs.Common.{◌≡◌, ℕ, ◌≤◌, suc, Bool, true, List, [], ◌∷◌, ◌++◌, length, Option, Some, None, sym, ap, ◌∙◌, subst, inl, inr}
 use Rattle.std.specs.Prelude.{option_map}
 use Rattle.std.specs.Option.{option_and_then}
@@ -37,13 +37,12 @@ use Rattle.rest_law.proofs.Graphs.{held_in}
 use Rattle.rest_law.proofs.Ordered.{bare, bare_order, ordered}
 use Rattle.rest_law.proofs.Failures.{SameFailures, same_run, same_self}
 use Rattle.event_law.specs.Laws.{world_after}
-use Rattle.event_law.specs.Scenarios.{IsScenarioOf, routes_of, scenario_of}
-use Rattle.event_law.proofs.Scenario.{worlds_have_scenarios}
+use Rattle.event_law.specs.Scenarios.{IsScenarioOf, routes_of}
 use Rattle.event_law.proofs.Waiting.{peers_hear_offers, quiet_worlds_are_settled, routes_size}
 use Rattle.event_law.proofs.First.{NoLater}
 use Rattle.rest_law.proofs.Choosers.{are_choosers}
-use Rattle.rest_law.proofs.Ending.{HasOrder, messages_end_on_networks, run_on}
-use Rattle.rest_law.specs.Rest.{IsAtRest, PassingEvidenceComesToRest, rounds_enough}
+use Rattle.rest_law.proofs.Ending.{HasOrder, run_on}
+use Rattle.rest_law.specs.Rest.{ComesToRest, IsAtRest, rounds_enough}
 use Rattle.rest_law.specs.Ways.{each_way}
 use Rattle.rest_law.proofs.OfGraph.{are_of_graph, route_of, setup}
 
@@ -143,11 +142,6 @@ module _ (net : PlainNet) (policy : PlainPolicy) (config : PlainConfig) (cs : Li
         heard = λ r peer router at_peer. peers_hear_offers net policy config cs rules kept passes p prefix (es ++ deliveries ds) f quiet still r peer router at_peer;
       }
 
-  rest_after : (f : Failures) (ds : List (ℕ × ℕ)) → IsScenarioOf net before f → AreRounds Here (rounds_enough net) before ds → IsAtRest net policy config p f (after ds)
-  rest_after f ds scenario rounds =
-      let has = has_order net policy config cs rules kept passes p prefix before (scenario_of net before) (worlds_have_scenarios net policy config p es rules) in
-      rest_of_quiet f ds scenario (messages_end_on_networks net policy config p es has.0 ds rules has.1 rounds).0
-
   speak : AreSpeakers Here
   speak = are_speakers net policy config p rules
 
@@ -157,19 +151,28 @@ module _ (net : PlainNet) (policy : PlainPolicy) (config : PlainConfig) (cs : Li
   listed : (a b : ℕ) → linked net a b ≡ true → Lists (each_way net.links) a b
   listed a b on = ways_listed net.links a b on
 
-  rest_reached : (f : Failures) → IsScenarioOf net before f → (ds : List (ℕ × ℕ)) × IsAtRest net policy config p f (after ds)
-  rest_reached f scenario =
-      let ds = each_round Here (each_way net.links) (rounds_enough net) before in
-      (ds, rest_after f ds scenario (rounds_go_on Here speak (each_way net.links) listed (rounds_enough net) before keeps))
+  -- where messages end after so many rounds
+  module _ (ends : (ds : List (ℕ × ℕ)) → AreRounds Here (rounds_enough net) before ds → IsQuiet (after ds)) where
+    rest_after : (f : Failures) (ds : List (ℕ × ℕ)) → IsScenarioOf net before f → AreRounds Here (rounds_enough net) before ds → IsAtRest net policy config p f (after ds)
+    rest_after f ds scenario rounds = rest_of_quiet f ds scenario (ends ds rounds)
 
-  rest_kept : (f : Failures) (schedule : ℕ → ℕ × ℕ) → IsScenarioOf net before f → IsFair Here schedule → (n : ℕ) × ((m : ℕ) → n ≤ m → IsAtRest net policy config p f (after (stretch schedule 0 m)))
-  rest_kept f schedule scenario fair =
-      let all = fair_rounds Here speak schedule fair (each_way net.links) listed (rounds_enough net) before keeps 0 in
-      (all.0, λ m le. rest_after f (stretch schedule 0 m) scenario (rounds_before Here schedule (rounds_enough net) all.0 m before le all.1))
+    rest_reached : (f : Failures) → IsScenarioOf net before f → (ds : List (ℕ × ℕ)) × IsAtRest net policy config p f (after ds)
+    rest_reached f scenario =
+        let ds = each_round Here (each_way net.links) (rounds_enough net) before in
+        (ds, rest_after f ds scenario (rounds_go_on Here speak (each_way net.links) listed (rounds_enough net) before keeps))
 
-pub passing_evidence_comes_to_rest : PassingEvidenceComesToRest
-passing_evidence_comes_to_rest net policy config cs rules kept passes p prefix = record {
-  rounds = λ es f ds scenario rounds. rest_after net policy config cs rules kept passes p prefix es f ds scenario rounds;
-  reached = λ es f scenario. rest_reached net policy config cs rules kept passes p prefix es f scenario;
-  fair = λ es f schedule scenario fair. rest_kept net policy config cs rules kept passes p prefix es f schedule scenario fair;
+    rest_kept : (f : Failures) (schedule : ℕ → ℕ × ℕ) → IsScenarioOf net before f → IsFair Here schedule → (n : ℕ) × ((m : ℕ) → n ≤ m → IsAtRest net policy config p f (after (stretch schedule 0 m)))
+    rest_kept f schedule scenario fair =
+        let all = fair_rounds Here speak schedule fair (each_way net.links) listed (rounds_enough net) before keeps 0 in
+        (all.0, λ m le. rest_after f (stretch schedule 0 m) scenario (rounds_before Here schedule (rounds_enough net) all.0 m before le all.1))
+
+-- Where messages end after so many rounds, whatever has happened, the network comes to rest.
+pub rests_where_messages_end : (net : PlainNet) (policy : PlainPolicy) (config : PlainConfig) (cs : List PlainCaseEvidence) → IsNet net → IsPolicyOf net policy
+    → Passes net policy config cs → (p : PlainPrefix) → IsPrefix p
+    → ((es : List Event) (ds : List (ℕ × ℕ)) → AreRounds (speakers_of net policy config p) (rounds_enough net) (world_after net policy config p es) ds → IsQuiet (world_after net policy config p (es ++ deliveries ds)))
+    → ComesToRest net policy config p
+rests_where_messages_end net policy config cs rules kept passes p prefix ends = record {
+  rounds = λ es f ds scenario rounds. rest_after net policy config cs rules kept passes p prefix es (ends es) f ds scenario rounds;
+  reached = λ es f scenario. rest_reached net policy config cs rules kept passes p prefix es (ends es) f scenario;
+  fair = λ es f schedule scenario fair. rest_kept net policy config cs rules kept passes p prefix es (ends es) f schedule scenario fair;
 }

@@ -1,30 +1,25 @@
--- Messages on a configured network come to an end.
+-- Messages come to an end where the routers of a network have an order.
 use Rattle.std.proofs.Common.{◌≡◌, ℕ, ◌<◌, ◌≤◌, ◌+◌, ◌*◌, zero, suc, true, List, [], ◌∷◌, ◌++◌, length, Option, Some, refl, sym, subst, arith}
-use Rattle.std.proofs.lemmas.Bool.{ltb-true}
-use Rattle.net_base.specs.Network.{PlainNet, IsNet}
+use Rattle.net_base.specs.Network.{PlainNet}
 use Rattle.net_base.specs.Prefixes.{PlainPrefix}
 use Rattle.policy_base.specs.Policies.{PlainPolicy}
 use Rattle.config_base.specs.declared.route.Route.{Route}
 use Rattle.config_base.specs.Configs.{PlainConfig}
 use Rattle.event_base.specs.declared.event.Event.{Event}
 use Rattle.event_base.specs.Speaking.{speakers_of, taken_by}
-use Rattle.event_base.specs.Steps.{IsQuiet, happens, opening, run}
+use Rattle.event_base.specs.Steps.{IsQuiet, happens, run}
 use Rattle.event_base.specs.World.{Speakers, World}
 use Rattle.event_law.specs.Kept.{AreSpeakers, IsKept}
 use Rattle.event_law.specs.Kinds.{AreKinds, IsKind}
-use Rattle.event_law.proofs.Keeping.{opening-keeps, run-keeps}
-use Rattle.event_law.proofs.KindsKept.{opening-kinds, run-kinds}
+use Rattle.event_law.proofs.KindsKept.{run-kinds}
 use Rattle.rest_law.specs.Orders.{AreChoosers, IsOrder, Takes, at_rest, rests}
 use Rattle.rest_law.specs.Rounds.{AreRounds, deliveries}
 use Rattle.rest_law.specs.Rest.{rounds_enough}
 use Rattle.rest_law.proofs.Present.{fewer_rounds}
 use Rattle.rest_law.proofs.Settle.{comes_to_rest}
-use Rattle.event_law.specs.Laws.{world_after}
 use Rattle.event_law.proofs.First.{NoLater}
-use Rattle.rest_law.proofs.Choosers.{are_choosers}
 use Rattle.rest_law.proofs.Counts.{order_short}
-use Rattle.event_law.proofs.Quiet.{are_speakers}
-use Rattle.rest_law.proofs.Trails.{IsHolding, IsSaying, trail_short, trails}
+use Rattle.rest_law.proofs.Trails.{IsHolding, IsSaying, trail_short}
 
 pub run_on : {R : Type 0} (net : Speakers R) (es fs : List Event) (w : World R) → run net fs (run net es w) ≡ run net (es ++ fs) w
 run_on net [] fs w = refl
@@ -57,18 +52,3 @@ trails_end net S takes w outcome vs ds speak choosers kind below kept kinds rest
     let few = order_short S w takes (NoLater net) outcome (length net.routers) below vs order in
     comes_to_rest S w takes (NoLater net) (λ (h : Route). length h.path) choosers outcome rested (suc (length net.routers)) speak vs ds kept short order
     (fewer_rounds S _ _ w ds (enough (length vs) (length net.routers) few) rounds)
-
--- So it is on a configured network, whatever the configuration is.
-pub messages_end_on_networks : (net : PlainNet) (policy : PlainPolicy) (config : PlainConfig) (p : PlainPrefix) (es : List Event) (outcome : ℕ → Option Route) (ds : List (ℕ × ℕ)) → IsNet net
-    → HasOrder net policy config p (world_after net policy config p es) outcome → AreRounds (speakers_of net policy config p) (rounds_enough net) (world_after net policy config p es) ds
-    → IsQuiet (world_after net policy config p (es ++ deliveries ds)) × ((r : ℕ) → (world_after net policy config p (es ++ deliveries ds)).route r ≡ outcome r)
-messages_end_on_networks net policy config p es outcome ds rules has rounds =
-    let S = speakers_of net policy config p in
-    let w : World Route = run S es (opening S) in
-    let speak = are_speakers net policy config p rules in
-    let kind = trails net policy config p in
-    let end =
-    trails_end net S (taken_by net config p) w outcome has.routers ds speak (are_choosers net policy config p rules) kind (λ r t. ltb-true r (length net.routers) t)
-    (run-keeps S speak es (opening S) (opening-keeps S speak))
-    (run-kinds S (IsHolding net) (IsSaying net) kind es (opening S) (opening-kinds S (IsHolding net) (IsSaying net) kind)) has.rested has.order rounds in
-    subst (λ (u : World Route). IsQuiet u × ((r : ℕ) → u.route r ≡ outcome r)) (run_on S es (deliveries ds) (opening S)) end

@@ -1,19 +1,19 @@
 -- What open routers can come to hold is found by a search, size by size.
-use Rattle.std.proofs.Common.{◌≡◌, ℕ, zero, suc, ◌+◌, ◌<◌, ◌≤◌, Bool, true, false, not, ◌&&◌, ◌||◌, ◌⊎◌, inl, inr, ⊎_elim, List, [], ◌∷◌, ◌++◌, length, Option, Some, None}
+use Rattle.std.proofs.Common.{◌≡◌, ℕ, zero, suc, ◌+◌, ◌<◌, ◌≤◌, Bool, true, false, ◌&&◌, ◌||◌, ◌⊎◌, inl, inr, ⊎_elim, List, [], ◌∷◌, ◌++◌, length, Option, Some, None}
 use Rattle.std.proofs.Common.{eqb, refl, sym, ap, ◌∙◌, subst, arith, length-append}
 use Rattle.std.specs.Prelude.{nat_lt, if◌then◌else◌}
 use Rattle.std.specs.Option.{is_none, option_and_then}
-use Rattle.std.proofs.lemmas.Bool.{and_from, and_parts, cases_Bool, cases_lt, cond-false, cond-true, ltb-false, ltb-true, eq-eqb, eqb-true, false≢true, false_from_ne_true, not-true, or_cases, or_left, or_right}
+use Rattle.std.proofs.lemmas.Bool.{and_from, and_parts, cases_Bool, cases_lt, cond-false, cond-true, ltb-false, ltb-true, eq-eqb, eqb-true, false≢true, false_from_ne_true, or_cases, or_left, or_right}
 use Rattle.list_law.proofs.Options.{is_none_from, is_none_parts}
-use Rattle.routing_law.specs.Graph.{Graph, WellFormed, follow, run}
-use Rattle.routing_law.specs.Network.{Network, chooses, loop_free, stands_on}
+use Rattle.routing_law.specs.Graph.{WellFormed, follow, run}
+use Rattle.routing_law.specs.Network.{chooses, stands_on}
 use Rattle.routing_law.specs.Outcome.{Route, Routes, Setup}
 use Rattle.routing_law.specs.Settling.{Marks, Within, any_below, is_node}
 use Rattle.routing_law.proofs.Heard.{chooses_parts, heard_from}
 use Rattle.routing_law.proofs.Reach.{any_at, any_from, is_node_true, is_node_from}
 use Rattle.routing_law.proofs.Rules.{AllRouters, all_more}
-use Rattle.routing_law.proofs.Runs.{follow_more, place_below, run_more, run_place, stands_split}
-use Rattle.routing_law.proofs.Saturate.{comes_to_rest, count_below, count_bound, count_more}
+use Rattle.routing_law.proofs.Runs.{follow_more, place_below, run_place, stands_split}
+use Rattle.routing_law.proofs.Saturate.{comes_to_rest}
 use Rattle.routing_law.proofs.Sound.{Backed, sound_of}
 use Rattle.rest_law.specs.Partial.{CanHold, Detour, IsOpen}
 use Rattle.rest_law.specs.Sizes.{IsSize, Size}
@@ -28,31 +28,6 @@ search_below P Q (suc k) h = more (search_below P Q k h) (h k)
     more (inr a) b = inr (a.0, omega (arith, a.1), a.2)
     more (inl a) (inr b) = inr (k, omega arith, b)
     more (inl a) (inl b) = inl (λ n l. ⊎_elim (λ m. a n m) (λ m. let e : k ≡ n = omega arith in subst P e b) (cases_lt n k))
-
--- the locations of a run are below the size
-abbrev pub AllBelow : ℕ → List ℕ → Type 0
-AllBelow bound [] = Unit {0}
-AllBelow bound (v ∷ p) = (v < bound) × AllBelow bound p
-
-run_below : {net : Network} {g : Graph} → WellFormed net g → (p : List ℕ) (n : ℕ) → run g p ≡ Some n → AllBelow net.size p
-run_below wf [] n h = tt
-run_below wf (v ∷ []) n h = ((wf.start_below v n h).0, tt)
-run_below {g = g} wf (v ∷ u ∷ q) n h =
-    let a = run_more g v u q n h in
-    ((wf.next_below a.0 v n a.2).1, run_below wf (u ∷ q) a.0 a.1)
-
--- so a path with no loop has at most as many
-counted : (bound : ℕ) (p : List ℕ) → AllBelow bound p → loop_free p ≡ true → length p ≤ count_below (λ n. stands_on n p) bound
-counted bound [] a h = omega arith
-counted bound (v ∷ p) a h =
-    let b = and_parts (not (stands_on v p)) (loop_free p) h in
-    let more =
-    count_more (λ n. stands_on n p) (λ n. stands_on n (v ∷ p)) (λ n e. or_right (eqb v n) (stands_on n p) e) bound v a.0
-    (not-true (stands_on v p) b.0) (or_left (eqb v v) (stands_on v p) (eq-eqb v v refl)) in
-    omega (arith, counted bound p a.1 b.1, more)
-
-pub loop_free_short : {net : Network} {g : Graph} → WellFormed net g → (p : List ℕ) (n : ℕ) → run g p ≡ Some n → loop_free p ≡ true → length p ≤ net.size
-loop_free_short {net} wf p n h e = omega (arith, counted net.size p (run_below wf p n h) e, count_bound (λ k. stands_on k p) net.size)
 
 -- a path's length is a size
 pub in_length : (w : Setup) → IsSize w (λ p. length p)

@@ -1,13 +1,11 @@
 -- A network comes to rest: where nothing more fails and messages are delivered, they end, and what is left is the one settled outcome.
 use Rattle.std.specs.Prelude.{◌≡◌, ℕ, suc, ◌≤◌, ◌+◌, ◌*◌, IsTrue, List, ◌∷◌, ◌++◌, length, option_map}
-use Rattle.net_base.specs.Network.{PlainNet, IsNet, is_peer, is_router}
+use Rattle.net_base.specs.Network.{PlainNet, is_peer, is_router}
 use Rattle.net_base.specs.Prefixes.{PlainPrefix, IsPrefix}
-use Rattle.policy_base.specs.Policies.{PlainPolicy, IsPolicyOf}
+use Rattle.policy_base.specs.Policies.{PlainPolicy}
 use Rattle.config_base.specs.declared.route.Route.{Route}
 use Rattle.config_base.specs.Configs.{PlainConfig}
-use Rattle.evidence_base.specs.Made.{PlainCaseEvidence}
 use Rattle.outcome_base.specs.Outcomes.{Failures, Outcome, offered}
-use Rattle.evidence_law.specs.Passes.{Passes}
 use Rattle.event_base.specs.declared.event.Event.{Event}
 use Rattle.event_base.specs.Speaking.{speakers_of}
 use Rattle.event_base.specs.Steps.{IsQuiet}
@@ -47,9 +45,3 @@ pub record ComesToRest (net : PlainNet) (policy : PlainPolicy) (config : PlainCo
 -- for every prefix
 abbrev pub AlwaysComesToRest : PlainNet → PlainPolicy → PlainConfig → Type 0
 AlwaysComesToRest net policy config = (p : PlainPrefix) → IsPrefix p → ComesToRest net policy config p
-
--- So it is where the evidence passes.
-abbrev pub PassingEvidenceComesToRest : Type 0
-PassingEvidenceComesToRest =
-    (net : PlainNet) (policy : PlainPolicy) (config : PlainConfig) (cs : List PlainCaseEvidence) → IsNet net → IsPolicyOf net policy
-    → Passes net policy config cs → AlwaysComesToRest net policy config

@@ -1,5 +1,5 @@
-//! Networks whose evidence passes come to rest: which router can settle for good while others haven't, and the order in which all do; what
-//! can be held after rounds of deliveries, and that messages end; no code.
+//! What rest is for the machine of events, and the laws by which routers settle: which router can settle for good while others haven't,
+//! the order in which all do, what can be held after rounds of deliveries, and that messages end; no code.
 //!
 //! There are three steps:
 //!
@@ -15,6 +15,10 @@
 //! 3. *A configured network is such.* What its routers say and take in a world is what the graph of the prefix's case does over what lives
 //!    (`proofs/OfGraph`), so the order of the first step is one for the second (`proofs/Ordered`).
 //!
+//! The second and the third step are for networks whose routers run several configurations: `rollout_rest` and `rollout_mixtures` go on from
+//! them. That a network under one configuration comes to rest, as `specs/Rest` says, is a case of the law of networks in motion: `event_rest`
+//! has it. Of this crate it takes that rest is reached where messages end (`rests_where_messages_end`).
+//!
 //! Compiling doesn't need it.
 //!
 //! It knows nothing of the compiler and texts.
@@ -23,16 +27,8 @@
 mod rounds;
 mod secure_routers;
 
-ghost use Rattle.rest_law.specs.Rest.{PassingEvidenceComesToRest};
-
 pub use rounds::{messages_end, rounds_remember};
 pub use secure_routers::{
     firm_routes_are_chosen, secure_routers_settle, settled_routes_are_the_outcome,
     some_router_is_secure,
 };
-
-/// Where the evidence passes, for every prefix and after every list of events, messages that are delivered come to an end. Then the
-/// routers hold the one settled outcome of what is down, cut and silent, and each peer has heard what it is offered in it.
-pub fn passing_evidence_comes_to_rest()
-    ensures { PassingEvidenceComesToRest }
-{}

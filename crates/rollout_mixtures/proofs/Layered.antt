@@ -50,7 +50,7 @@ module _ (k : Two) (rules : IsNet k.s.net) (prefix : IsPrefix k.s.p) (cs ds : Li
   -- what fails besides
   besides : (off deaf : ℕ → Bool) → ((r : ℕ) → off r ≡ true → is_router k.s.net r ≡ true) → FailBesides k.s.net f off deaf (scenario_of k.s.net (cut_off off deaf k.s.w))
   besides off deaf outside =
-      let cut = cut_scenario k rules prefix cs ds lawful passes lawful' passes' both down off deaf outside in
+      let cut = cut_scenario k both down off deaf outside in
       record {
         routers = λ l. cut.dead l ∙ ap (λ (b : Bool). b || off l) (sym (scenario.dead l));
         links = λ a b on. cut.links a b on ∙ sym (scenario.links a b on);
@@ -114,12 +114,12 @@ module _ (k : Two) (rules : IsNet k.s.net) (prefix : IsPrefix k.s.p) (cs ds : Li
     are_layers = record {
       later = two.outcome;
       new_failures = scenario_of k.s.net (w2 k);
-      new_fails = besides (off2 k) (waits k) (off2_router k rules prefix cs ds lawful passes lawful' passes' both down);
+      new_fails = besides (off2 k) (waits k) (off2_router k);
       new_settled = two.full;
       new_right = passing_evidence_is_right k.s.net k.new.policy k.new.config ds rules lawful' passes' k.s.p (scenario_of k.s.net (w2 k)) two.outcome prefix two.size two.full.stable;
       earlier = one.outcome;
       old_failures = scenario_of k.s.net (w1 k out2);
-      old_fails = besides (off1 k out2) (flipped k) (off1_router k rules prefix cs ds lawful passes lawful' passes' both down out2);
+      old_fails = besides (off1 k out2) (flipped k) (off1_router k out2);
       old_settled = one.full;
       old_right = passing_evidence_is_right k.s.net k.old.policy k.old.config cs rules lawful passes k.s.p (scenario_of k.s.net (w1 k out2)) one.outcome prefix one.size one.full.stable;
       held = λ r router. at_rest_holds r ∙ layered r router;

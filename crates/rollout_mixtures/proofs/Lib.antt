@@ -1,5 +1,7 @@
+pub mod Alike
 pub mod Alone
 pub mod Earlier
+pub mod Idle
 pub mod Later
 pub mod Layered
 pub mod Orders
@@ -9,4 +11,6 @@ pub mod Rest
 pub mod Setting
 pub mod Settles
 pub mod Sides
+pub mod Staying
+pub mod Theirs
 pub mod Two

@@ -1,5 +1,5 @@
 -- Mixtures come to rest.
-use Rattle.std.proofs.Common.{◌≡◌, ℕ, Bool, true, false, ◌||◌, eqb, List, [], ◌∷◌, length, IsTrue, Option, Some, None, refl, sym, ap, ◌∙◌, inl, inr}
+use Rattle.std.proofs.Common.{◌≡◌, ℕ, Bool, true, false, eqb, List, [], ◌∷◌, length, IsTrue, Option, Some, None, refl, sym, ap, ◌∙◌, inl, inr}
 use Rattle.std.specs.Prelude.{if◌then◌else◌}
 use Rattle.std.specs.List.{list_any}
 use Rattle.std.specs.Option.{option_or}
@@ -117,7 +117,7 @@ module _ (k : Two) (out2 : ℕ → Option Route) (order2 : HasOrder k.s.net k.ne
     pub linked_listed : (a b : ℕ) → linked k.s.net a b ≡ true → Lists (each_way k.s.net.links) a b
     linked_listed a b on = ways_listed k.s.net.links a b on
 
-    ends : ComesToAnEnd k.s.net k.s.says k.s.p k.s.m k.s.w
+    pub ends : ComesToAnEnd k.s.net k.s.says k.s.p k.s.m k.s.w
     ends = record {
       outcome = holds;
       rounds = enough;
@@ -129,10 +129,15 @@ module _ (k : Two) (out2 : ℕ → Option Route) (order2 : HasOrder k.s.net k.ne
           (far.0, λ n le. enough (stretch schedule 0 n) (rounds_before S schedule (rounds_enough k.s.net) far.0 n k.s.w le far.1));
     }
 
--- each side's own network has an order in what the mixture leaves to it
-module _ (k : Two) (rules : IsNet k.s.net) (prefix : IsPrefix k.s.p) (cs ds : List PlainCaseEvidence) (lawful : IsPolicyOf k.s.net k.old.policy) (passes : Passes k.s.net k.old.policy k.old.config cs)
-    (lawful' : IsPolicyOf k.s.net k.new.policy) (passes' : Passes k.s.net k.new.policy k.new.config ds) (both : (a b : ℕ) → k.s.w.cut a b ≡ k.s.w.cut b a)
-    (down : (r : ℕ) → k.s.w.down r ≡ true → is_router k.s.net r ≡ true) where
+-- who is off is a router
+pub off2_router : (k : Two) (r : ℕ) → off2 k r ≡ true → is_router k.s.net r ≡ true
+off2_router k r t = (and_parts (is_router k.s.net r) _ t).0
+
+pub off1_router : (k : Two) (out2 : ℕ → Option Route) (r : ℕ) → off1 k out2 r ≡ true → is_router k.s.net r ≡ true
+off1_router k out2 r t = (and_parts (is_router k.s.net r) _ t).0
+
+-- what is down, cut and silent where besides these are off, and those hear no peers
+module _ (k : Two) (both : (a b : ℕ) → k.s.w.cut a b ≡ k.s.w.cut b a) (down : (r : ℕ) → k.s.w.down r ≡ true → is_router k.s.net r ≡ true) where
   pub cut_scenario : (off deaf : ℕ → Bool) → ((r : ℕ) → off r ≡ true → is_router k.s.net r ≡ true)
       → IsScenarioOf k.s.net (cut_off off deaf k.s.w) (scenario_of k.s.net (cut_off off deaf k.s.w))
   cut_scenario off deaf outside = is_scenario k.s.net (cut_off off deaf k.s.w) both (λ r t. elim (or_cases (k.s.w.down r) (off r) t) [
@@ -140,17 +145,21 @@ module _ (k : Two) (rules : IsNet k.s.net) (prefix : IsPrefix k.s.p) (cs ds : Li
     | inr b ↦ outside r b
   ])
 
-  pub off2_router : (r : ℕ) → off2 k r ≡ true → is_router k.s.net r ≡ true
-  off2_router r t = (and_parts (is_router k.s.net r) _ t).0
+  pub later_scenario : IsScenarioOf k.s.net (w2 k) (scenario_of k.s.net (w2 k))
+  later_scenario = cut_scenario (off2 k) (waits k) (off2_router k)
 
-  pub off1_router : (out2 : ℕ → Option Route) (r : ℕ) → off1 k out2 r ≡ true → is_router k.s.net r ≡ true
-  off1_router out2 r t = (and_parts (is_router k.s.net r) _ t).0
+  pub earlier_scenario : (out2 : ℕ → Option Route) → IsScenarioOf k.s.net (w1 k out2) (scenario_of k.s.net (w1 k out2))
+  earlier_scenario out2 = cut_scenario (off1 k out2) (flipped k) (off1_router k out2)
 
+-- each side's own network has an order in what the mixture leaves to it
+module _ (k : Two) (rules : IsNet k.s.net) (prefix : IsPrefix k.s.p) (cs ds : List PlainCaseEvidence) (lawful : IsPolicyOf k.s.net k.old.policy) (passes : Passes k.s.net k.old.policy k.old.config cs)
+    (lawful' : IsPolicyOf k.s.net k.new.policy) (passes' : Passes k.s.net k.new.policy k.new.config ds) (both : (a b : ℕ) → k.s.w.cut a b ≡ k.s.w.cut b a)
+    (down : (r : ℕ) → k.s.w.down r ≡ true → is_router k.s.net r ≡ true) where
   pub later : Settles k.s.net k.new.policy k.new.config k.s.p (w2 k) (scenario_of k.s.net (w2 k))
-  later = settles k.s.net k.new.policy k.new.config ds rules lawful' passes' k.s.p prefix (w2 k) (scenario_of k.s.net (w2 k)) (cut_scenario (off2 k) (waits k) off2_router)
+  later = settles k.s.net k.new.policy k.new.config ds rules lawful' passes' k.s.p prefix (w2 k) (scenario_of k.s.net (w2 k)) (later_scenario k both down)
 
   pub earlier : (out2 : ℕ → Option Route) → Settles k.s.net k.old.policy k.old.config k.s.p (w1 k out2) (scenario_of k.s.net (w1 k out2))
-  earlier out2 = settles k.s.net k.old.policy k.old.config cs rules lawful passes k.s.p prefix (w1 k out2) (scenario_of k.s.net (w1 k out2)) (cut_scenario (off1 k out2) (flipped k) (off1_router out2))
+  earlier out2 = settles k.s.net k.old.policy k.old.config cs rules lawful passes k.s.p prefix (w1 k out2) (scenario_of k.s.net (w1 k out2)) (earlier_scenario k both down out2)
 
   pub comes_to_an_end : IsKept (mixed k.s.net k.s.says k.s.p k.s.m) k.s.w → AreKinds (IsHolding k.s.net) (IsSaying k.s.net) k.s.w → ComesToAnEnd k.s.net k.s.says k.s.p k.s.m k.s.w
   comes_to_an_end kept trails =

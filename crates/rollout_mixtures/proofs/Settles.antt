@@ -2,7 +2,7 @@
 use Rattle.std.proofs.Common.{◌≡◌, ℕ, suc, Bool, true, false, not, ◌&&◌, List, length, Option, Some, None, refl, sym, ap, ◌∙◌, subst, inl, inr}
 use Rattle.std.specs.Prelude.{option_map, if◌then◌else◌}
 use Rattle.std.specs.Option.{option_and_then}
-use Rattle.std.proofs.lemmas.Bool.{and_from, and_left, and_parts, and_right, cases_Bool, cond-false, cond-true, ltb-true, not-true, not_from_false, not_from_true}
+use Rattle.std.proofs.lemmas.Bool.{and_from, and_left, and_right, cases_Bool, cond-false, cond-true, ltb-true, not_from_false, not_from_true}
 use Rattle.list_law.proofs.Options.{cases_Option, none_or_some}
 use Rattle.net_base.specs.Network.{PlainNet, IsNet, is_location, is_router}
 use Rattle.net_base.specs.Prefixes.{PlainPrefix, IsPrefix}
@@ -17,7 +17,7 @@ use Rattle.evidence_law.specs.Passes.{Passes}
 use Rattle.evidence_law.proofs.Existence.{held, outcome-size, outcome_of, route_of as line_route, unheld}
 use Rattle.evidence_law.proofs.ExistenceLaw.{lone_stable, own_alone}
 use Rattle.evidence_law.proofs.Heard.{no_gift}
-use Rattle.evidence_law.proofs.Setting.{alive_of, lines_of, network_of, pairs_of, setup_of}
+use Rattle.evidence_law.proofs.Setting.{lines_of, network_of, pairs_of, setup_of}
 use Rattle.routing_law.specs.Graph as graph
 use Rattle.routing_law.specs.Lines as line
 use Rattle.routing_law.specs.Network as law
@@ -180,7 +180,7 @@ module _ (net : PlainNet) (policy : PlainPolicy) (config : PlainConfig) (p : Pla
       ]
     ]
 
-    bare_over : Settles net policy config p w f
+    pub bare_over : Settles net policy config p w f
     bare_over =
         let has = bare_order S w (taken_by net config p) (NoLater net) (length net.routers) (λ r t. ltb-true r (length net.routers) t) nothing in
         settles_on lone alone (record { rested = λ r t. cond-true (rests S w r) (at_rest S w r) None t; routers = has.0; order = has.1 })

@@ -1,5 +1,5 @@
 -- The two layers of a network between old and new: what it holds is what each side's own network would, where some routers are dead.
-use Rattle.std.specs.Prelude.{◌≡◌, ℕ, Bool, true, false, not, ◌&&◌, ◌||◌, IsTrue, List, Option, is_some}
+use Rattle.std.specs.Prelude.{◌≡◌, ℕ, Bool, false, not, ◌&&◌, ◌||◌, IsTrue, List, Option, is_some}
 use Rattle.std.specs.Option.{option_or}
 use Rattle.net_base.specs.Network.{PlainNet, IsNet, is_peer, is_router, linked}
 use Rattle.net_base.specs.Prefixes.{PlainPrefix, IsPrefix}

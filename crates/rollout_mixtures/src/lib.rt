@@ -15,6 +15,11 @@
 //! So what is held at rest is the new side's own outcome where those routers are dead, and of the others the old side's own
 //! (`specs/Layered`). `proofs/Settles` has the order of a side together with the settled outcome that it leads to.
 //!
+//! Where both configurations do the same with a prefix nothing is asked of preferences (`specs/Alike`). Their policies may differ in who originates it. But who
+//! originates it by one alone has no tag for its own route there, so nobody hears of it, and no line by which it takes a route (`proofs/Idle`). So such own routes are
+//! a layer without lines, below that of the lines that both have (`proofs/Staying`). At rest each router holds what it holds where all run
+//! what it runs: a quiet world of theirs is one of either part's own network, but for what nobody hears (`proofs/Theirs`).
+//!
 //! Compiling doesn't need it.
 //!
 //! It knows nothing of the compiler, of how a stage is made, or of what a policy allows.
@@ -22,6 +27,7 @@
 
 ghost use Rattle.rollout_mixtures.specs.Laws.{MixturesComeToRest, RolloutsAreBetween};
 ghost use Rattle.rollout_mixtures.specs.Layered.{RestingMixturesAreLayered};
+ghost use Rattle.rollout_mixtures.specs.Alike.{AlikesComeToRest, RestingAlikesHoldTheirs, RolloutsRunEither};
 
 /// From the moment on when nobody loads any more, so many rounds of deliveries end all messages, whatever each router runs of an old and
 /// a new configuration. Each part of a rollout is such.
@@ -34,4 +40,17 @@ pub fn mixtures_come_to_rest()
 /// the other routers the old one's with the rest dead. Each layer is right for its own policy.
 pub fn resting_mixtures_are_layered()
     ensures { RestingMixturesAreLayered }
+{}
+
+/// Where both configurations do the same with a prefix, messages end so whichever of the two policies each router runs. Each part of a
+/// rollout is such.
+pub fn alikes_come_to_rest()
+    ensures either { RolloutsRunEither }
+    ensures rest { AlikesComeToRest }
+{}
+
+/// Where no message waits, each router then holds what it holds in the settled outcome of the policy that it runs. The outcomes of both are the same but
+/// for the own routes of who is an origin by one policy alone; peers have heard what both offer.
+pub fn resting_alikes_hold_theirs()
+    ensures { RestingAlikesHoldTheirs }
 {}

@@ -83,7 +83,7 @@ abbrev pub silenced : Part → Part
 silenced x = record { policy = x.policy; config = record { classes = []; routers = [] } }
 
 module _ (net : PlainNet) (p : PlainPrefix) (old new : Part) where
-  own_bare : (r : ℕ) → own_tag net (silenced new).config p r ≡ no_tag
+  pub own_bare : (r : ℕ) → own_tag net (silenced new).config p r ≡ no_tag
   own_bare r = elim (cases_Bool (is_router net r)) [
     | inl t ↦ rw t refl
     | inr f ↦ rw f refl

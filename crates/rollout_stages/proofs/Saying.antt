@@ -13,7 +13,7 @@ use Rattle.config_base.specs.Configs.{PlainConfig}
 use Rattle.config_base.specs.Lines.{block_at, class_of, export_by, export_of, import_of, is_looped, line_by, router_at}
 use Rattle.rollout_base.specs.Lines.{GivesTag, ReadsAs, SaysNoMore, sends, takes}
 use Rattle.rollout_base.specs.Mixtures.{Part}
-use Rattle.rollout_base.specs.Stages.{AreStages, HasStartsOf, IsOfRollout, MayMix, staged}
+use Rattle.rollout_base.specs.Stages.{AreStages, HasStartsOf, IsOfRollout, MayMix, SayAlike, staged}
 use Rattle.rollout_stages.specs.Laws.{RolloutsHaveStages, StagesReadAsStarts, StagesSayNoMore}
 
 -- ---- of options
@@ -28,7 +28,7 @@ adds_nothing (Some y) b never = refl
 adds_nothing None None never = refl
 adds_nothing None (Some x) never = absurd (never x refl refl)
 
-twice : {A : Type 0} (a b : Option A) → a ≡ b → option_or a b ≡ a
+pub twice : {A : Type 0} (a b : Option A) → a ≡ b → option_or a b ≡ a
 twice (Some y) b same = refl
 twice None b same = sym same
 
@@ -120,9 +120,12 @@ module _ (net : PlainNet) (p : PlainPrefix) (x y : Part) where
   reads_itself : (r : ℕ) → ReadsAs net p x r x
   reads_itself r = record { origin = refl; own = λ origin. refl; sent = λ z t gives. refl; taken = λ u path t from gives. refl; heard = λ u path t off. refl }
 
+pub alike_swapped : (net : PlainNet) (p : PlainPrefix) (x y : PlainConfig) → SayAlike net p x y → SayAlike net p y x
+alike_swapped net p x y a = record { own = λ r. sym (a.own r); sent = λ r z tag. sym (a.sent r z tag); taken = λ r u path tag. sym (a.taken r u path tag) }
+
 pub mix_swapped : (net : PlainNet) (p : PlainPrefix) (x y : Part) → MayMix net p x y → MayMix net p y x
 mix_swapped net p x y (inl apart) = inl (record { one = apart.other; other = apart.one })
-mix_swapped net p x y (inr alike) = inr (record { own = λ r. sym (alike.own r); sent = λ r z tag. sym (alike.sent r z tag); taken = λ r u path tag. sym (alike.taken r u path tag) })
+mix_swapped net p x y (inr alike) = inr (alike_swapped net p x.config y.config alike)
 
 pub rollouts_have_stages : RolloutsHaveStages
 rollouts_have_stages net p old new one two is = record {

@@ -3,28 +3,29 @@ use Rattle.std.proofs.Common.{◌≡◌, ℕ, zero, suc, ◌+◌, ◌-◌, ◌*�
 use Rattle.std.specs.Option.{is_some}
 use Rattle.std.proofs.Math.Nat.{suc-mul, zero-mul}
 use Rattle.std.proofs.lemmas.Bool.{false≢true}
-use Rattle.routing_law.specs.Graph.{WellFormed}
-use Rattle.routing_law.specs.Network.{chooses}
+use Rattle.routing_law.specs.Graph.{WellFormed, run}
+use Rattle.routing_law.specs.Network.{chooses, loop_free}
 use Rattle.routing_law.specs.Outcome.{Route, Routes, Setup, heard, own_route}
 use Rattle.std.specs.Option.{option_and_then}
 use Rattle.routing_law.specs.Outcome.{extended}
-use Rattle.routing_law.proofs.Heard.{heard_parts}
+use Rattle.routing_law.proofs.Heard.{chooses_parts, heard_parts}
 use Rattle.routing_law.proofs.Rules.{Everywhere, everywhere}
 use Rattle.routing_law.proofs.Saturate.{count_below, count_bound, count_more}
 use Rattle.rest_law.specs.Partial.{CanHold, IsOpen, PartlySettled, at_first, settled_with}
 use Rattle.rest_law.proofs.Candidates.{nothing_is_left}
 use Rattle.rest_law.proofs.Firm.{firm_at_first, with_at, with_cases, with_kept}
-use Rattle.rest_law.proofs.Search.{loop_free_short, search_below}
+use Rattle.rest_law.proofs.Search.{search_below}
 use Rattle.rest_law.proofs.Secure.{backed_of}
 use Rattle.tie_law.specs.Ties.{IsNext, IsSize, Size}
 use Rattle.rest_law.proofs.Cycle.{Offered, offer_known}
 use Rattle.rest_law.proofs.Next.{Quiet, next_secure}
 use Rattle.tie_law.proofs.Ties.{settlements_grow, ties_are_next}
 use Rattle.steady_law.specs.Histories.{AreStill, AreTied, History, HoldsRuns, IsRound, IsSteady, IsToldOf, IsTop, TiesSettle, rounds_needed}
+use Rattle.steady_law.proofs.Paths.{short}
 use Rattle.steady_law.proofs.Takes.{Fits, FitsTo, HoldsTo, are_tied, given_some, open_take, tie_settled, ties_given, ties_of, whole_is_held}
 
-module _ (w : Setup) (size : Size) (sized : IsSize w size) (wf : WellFormed w.net w.graph) (ev : Everywhere w.net w.graph) (h : History) (time : ℕ → ℕ) (runs : HoldsRuns w h (time 0))
-    (grows : (k : ℕ) → time k ≤ time (suc k)) (rounds : (k : ℕ) → k ≤ rounds_needed w → IsRound w size h (time k) (time (suc k)) × IsSteady w size h (time k) (time (suc k))) where
+module _ (w : Setup) (size : Size) (routers : ℕ) (below : (v : ℕ) → w.net.router v ≡ true → v < routers) (sized : IsSize w size) (wf : WellFormed w.net w.graph) (ev : Everywhere w.net w.graph) (h : History) (time : ℕ → ℕ) (runs : HoldsRuns w h (time 0))
+    (grows : (k : ℕ) → time k ≤ time (suc k)) (rounds : (k : ℕ) → k ≤ rounds_needed routers → IsRound w size h (time k) (time (suc k)) × IsSteady w size h (time k) (time (suc k))) where
   later : (i d j : ℕ) → j ≡ i + d → time i ≤ time j
   later i zero j e = let same : i ≡ j = omega (arith, e) in subst (λ k. time i ≤ time k) same (omega arith)
   later i (suc d) j e =
@@ -52,7 +53,7 @@ module _ (w : Setup) (size : Size) (sized : IsSize w size) (wf : WellFormed w.ne
       by false o false c = let clash : None ≡ Some z = sym (runs.none t u l o c) ∙ g in absurd (cc)
 
   -- with each round by one location more
-  deeper : (r : Routes) → PartlySettled w r → (j : ℕ) → SettledFrom r j → (k e : ℕ) → e ≡ j + k → e ≤ rounds_needed w → OthersFrom r k e
+  deeper : (r : Routes) → PartlySettled w r → (j : ℕ) → SettledFrom r j → (k e : ℕ) → e ≡ j + k → e ≤ rounds_needed routers → OthersFrom r k e
   deeper r ps j settled zero e i l t u z late none g =
       let start = from_start e t late in
       let c = holder_chooses r ps t u z start none g in
@@ -71,25 +72,26 @@ module _ (w : Setup) (size : Size) (sized : IsSize w size) (wf : WellFormed w.ne
       let top : IsTop w size a.0 u (Some z) = subst (IsTop w size a.0 u) g a.2 in
       open_take w r a.0 k ps f u top.0 z (c, none) top.1.0
 
-  -- after as many rounds as there are locations all the way
-  whole : (r : Routes) → PartlySettled w r → (j : ℕ) → SettledFrom r j → (e : ℕ) → e ≡ j + w.net.size → e ≤ rounds_needed w
+  -- after as many rounds as the longest path has places all the way
+  whole : (r : Routes) → PartlySettled w r → (j : ℕ) → SettledFrom r j → (e : ℕ) → e ≡ j + suc routers → e ≤ rounds_needed routers
       → (t u : ℕ) (z : Route) → time e ≤ t → r u ≡ None → h t u ≡ Some z → (rest : List ℕ) × (z.path ≡ u ∷ rest) × CanHold w r (u ∷ rest) z.node
   whole r ps j settled e i l t u z late none g =
       let start = from_start e t late in
-      let a = deeper r ps j settled w.net.size e i l t u z late none g in
-      let b = runs.runs t u z start (holder_chooses r ps t u z start none g) g in
-      let short = loop_free_short wf z.path z.node b.2 b.3 in
-      let few : length (u ∷ a.0) ≤ w.net.size = subst (λ p. length p ≤ w.net.size) a.1 short in
-      (a.0, a.1, whole_is_held w r w.net.size u a.0 z.node few a.2)
+      let a = deeper r ps j settled (suc routers) e i l t u z late none g in
+      let c = holder_chooses r ps t u z start none g in
+      let b = runs.runs t u z start c g in
+      let few : length (u ∷ b.0) ≤ suc routers = short wf routers below u b.0 z.node (chooses_parts w u c).0 (ap (run w.graph) (sym b.1) ∙ b.2) (ap loop_free (sym b.1) ∙ b.3) in
+      let same : length (u ∷ b.0) ≡ length (u ∷ a.0) = ap length (sym b.1 ∙ a.1) in
+      (a.0, a.1, whole_is_held w r (suc routers) u a.0 z.node (omega (arith, few, same)) a.2)
 
   -- so after one more the router that is next has settled, with one of the routes that tie
   module _ (r : Routes) (ps : PartlySettled w r) (j : ℕ) (settled : SettledFrom r j) (v : ℕ) (x : Route) (next : IsNext w size r v x)
-      (i : ℕ) (at : i ≡ j + w.net.size) (fits : suc i ≤ rounds_needed w) where
+      (i : ℕ) (at : i ≡ j + suc routers) (fits : suc i ≤ rounds_needed routers) where
     round : IsRound w size h (time i) (time (suc i))
     round = (rounds i (omega (arith, fits))).0
 
     from_j : time j ≤ time i
-    from_j = later j w.net.size i at
+    from_j = later j (suc routers) i at
 
     fit : (o : Routes) → IsToldOf h (time i) o → Fits w r o
     fit o told = record {
@@ -157,10 +159,9 @@ module _ (w : Setup) (size : Size) (sized : IsSize w size) (wf : WellFormed w.ne
   abbrev marks : Routes → ℕ → Bool
   marks r v = is_some (r v)
 
-  one_more : (r : Routes) (v : ℕ) (x : Route) → IsNext w size r v x → count_below (marks r) w.net.size < count_below (marks (settled_with r v x)) w.net.size
+  one_more : (r : Routes) (v : ℕ) (x : Route) → IsNext w size r v x → count_below (marks r) routers < count_below (marks (settled_with r v x)) routers
   one_more r v x next =
-      let a : Offered w r v x = record { is_open = next.is_open; from = next.from; gives = next.gives } in
-      count_more (marks r) (marks (settled_with r v x)) more w.net.size v (offer_known w size wf ev r v x a).0 (ap is_some next.is_open.1) (ap is_some (with_at r v x))
+      count_more (marks r) (marks (settled_with r v x)) more routers v (below v (chooses_parts w v next.is_open.0).0) (ap is_some next.is_open.1) (ap is_some (with_at r v x))
     where
       more : (u : ℕ) → is_some (r u) ≡ true → is_some (settled_with r v x u) ≡ true
       more u g = by (r u) refl
@@ -169,35 +170,48 @@ module _ (w : Setup) (size : Size) (sized : IsSize w size) (wf : WellFormed w.ne
           by None e = absurd (false≢true (sym (ap is_some e) ∙ g))
           by (Some y) e = ap is_some (with_kept r v x next.is_open.1 u y e)
 
-  -- what has settled in the end, and when
+  -- what is held for good, and from when on
   record End : Type 0 where
     routes : Routes
-    partly : PartlySettled w routes
-    ended : Ended routes
     when : ℕ
-    early : when ≤ w.net.size * suc w.net.size
-    settled : SettledFrom routes when
+    early : when ≤ rounds_needed routers
+    held : (t v : ℕ) → time when ≤ t → h t v ≡ routes v
 
-  needed : rounds_needed w ≡ w.net.size * suc w.net.size + suc w.net.size
-  needed = suc-mul w.net.size (suc w.net.size)
-
-  finish : (k : ℕ) (r : Routes) (j : ℕ) → PartlySettled w r → SettledFrom r j → w.net.size ≤ count_below (marks r) w.net.size + k → j + k * suc w.net.size ≤ w.net.size * suc w.net.size → End
-  finish zero r j ps settled few soon = by (ended_or_next r ps)
+  -- so it is where nobody holds anything but what is settled
+  all_held : (r : Routes) (j i d : ℕ) → i ≡ j + d → i ≤ rounds_needed routers → SettledFrom r j → ((t u : ℕ) (z : Route) → time i ≤ t → r u ≡ None → h t u ≡ Some z → ⊥) → End
+  all_held r j i d at early settled nobody = record { routes = r; when = i; early = early; held = λ t v late. by t v late (r v) refl (h t v) refl }
     where
-      by : Ended r ⊎ ((v : ℕ) × (x : Route) × IsNext w size r v x) → End
-      by (inl e) = record { routes = r; partly = ps; ended = e; when = j; early = (let none = zero-mul (suc w.net.size) in omega (arith, soon, none)); settled = settled }
-      by (inr n) = absurd (omega (arith, few, one_more r n.0 n.1 n.2, count_bound (marks (settled_with r n.0 n.1)) w.net.size))
+      by : (t v : ℕ) → time i ≤ t → (a : Option Route) → r v ≡ a → (b : Option Route) → h t v ≡ b → h t v ≡ r v
+      by t v late (Some x) e b f = settled t v x (omega (arith, late, later j d i at)) e ∙ sym e
+      by t v late None e None f = f ∙ sym e
+      by t v late None e (Some y) f = absurd (nobody t v y late e f)
+
+  finish : (k : ℕ) (r : Routes) (j : ℕ) → PartlySettled w r → SettledFrom r j → routers ≤ count_below (marks r) routers + k → j + k * (routers + 2) ≤ rounds_needed routers → End
+  finish zero r j ps settled few soon = all_held r j j 0 (omega arith) (let none = zero-mul (routers + 2) in omega (arith, soon, none)) settled nobody
+    where
+      nobody : (t u : ℕ) (z : Route) → time j ≤ t → r u ≡ None → h t u ≡ Some z → ⊥
+      nobody t u z late none g =
+          let router = (chooses_parts w u (holder_chooses r ps t u z (from_start j t late) none g)).0 in
+          let more = count_more (marks r) (λ v. true) (λ v e. refl) routers u (below u router) (ap is_some none) refl in
+          let all = count_bound (λ v. true) routers in
+          omega (arith, few, more, all)
   finish (suc k) r j ps settled few soon = by (ended_or_next r ps) (finish k)
     where
-      step : suc k * suc w.net.size ≡ k * suc w.net.size + suc w.net.size
-      step = suc-mul k (suc w.net.size)
+      step : suc k * (routers + 2) ≡ k * (routers + 2) + (routers + 2)
+      step = suc-mul k (routers + 2)
+
+      i : ℕ
+      i = j + suc routers
+
+      within : suc i ≤ rounds_needed routers
+      within = omega (arith, soon, step)
 
       by : Ended r ⊎ ((v : ℕ) × (x : Route) × IsNext w size r v x)
-          → ((q : Routes) (i : ℕ) → PartlySettled w q → SettledFrom q i → w.net.size ≤ count_below (marks q) w.net.size + k → i + k * suc w.net.size ≤ w.net.size * suc w.net.size → End) → End
-      by (inl e) again = record { routes = r; partly = ps; ended = e; when = j; early = omega (arith, soon); settled = settled }
+          → ((q : Routes) (i : ℕ) → PartlySettled w q → SettledFrom q i → routers ≤ count_below (marks q) routers + k → i + k * (routers + 2) ≤ rounds_needed routers → End) → End
+      by (inl e) again =
+          all_held r j i (suc routers) refl (omega (arith, within)) settled
+          (λ t u z late none g. (let a = whole r ps j settled i refl (omega (arith, within)) t u z late none g in nothing_is_left w r ps e (u ∷ a.0) z.node a.2))
       by (inr n) again =
-          let i = j + w.net.size in
-          let within : suc i ≤ rounds_needed w = omega (arith, soon, step, needed) in
           let a = one_settles r ps j settled n.0 n.1 n.2 i refl within in
           again (settled_with r n.0 a.route) (suc i) (settlements_grow w size r n.0 a.route ps a.next_too) a.from_now
           (omega (arith, few, one_more r n.0 a.route a.next_too)) (omega (arith, soon, step))
@@ -210,26 +224,14 @@ module _ (w : Setup) (size : Size) (sized : IsSize w size) (wf : WellFormed w.ne
       by false o e = absurd (cc)
 
   end : End
-  end = finish w.net.size (at_first w) zero (firm_at_first w).partly origins (omega arith) (omega arith)
+  end = finish routers (at_first w) zero (firm_at_first w).partly origins (omega arith) (omega arith)
 
-  all_settle : (t v : ℕ) → time (rounds_needed w) ≤ t → h t v ≡ end.routes v
-  all_settle t v late = by (end.routes v) refl (h t v) refl
-    where
-      c : ℕ
-      c = end.when + w.net.size
-
-      enough : c ≤ rounds_needed w
-      enough = (let early = end.early in omega (arith, early, needed))
-
-      reached : time c ≤ t
-      reached = (let d = rounds_needed w - c in let i : rounds_needed w ≡ c + d = omega (arith, enough) in omega (arith, late, later c d (rounds_needed w) i))
-
-      by : (a : Option Route) → end.routes v ≡ a → (b : Option Route) → h t v ≡ b → h t v ≡ end.routes v
-      by (Some x) e b f = end.settled t v x (omega (arith, reached, later end.when w.net.size c refl)) e ∙ sym e
-      by None e None f = f ∙ sym e
-      by None e (Some y) f =
-          let a = whole end.routes end.partly end.when end.settled c refl enough t v y reached e f in
-          absurd (nothing_is_left w end.routes end.partly end.ended (v ∷ a.0) y.node a.2)
+  all_settle : (t v : ℕ) → time (rounds_needed routers) ≤ t → h t v ≡ end.routes v
+  all_settle t v late =
+      let early = end.early in
+      let d = rounds_needed routers - end.when in
+      let i : rounds_needed routers ≡ end.when + d = omega (arith, early) in
+      end.held t v (omega (arith, late, later end.when d (rounds_needed routers) i))
 
   heard_same : (o s : Routes) (v u : ℕ) → o u ≡ s u → heard w o v u ≡ heard w s v u
   heard_same o s v u e = ap (λ m. cond (w.alive.carries u v) (option_and_then (extended w v) m) None) e
@@ -240,13 +242,13 @@ module _ (w : Setup) (size : Size) (sized : IsSize w size) (wf : WellFormed w.ne
 
   stable : (v : ℕ) → chooses w.net w.alive v ≡ true → IsTop w size end.routes v (end.routes v)
   stable v c =
-      let n = rounds_needed w in
+      let n = rounds_needed routers in
       let a = (rounds n (omega arith)).0 (time (suc n)) v (omega arith) c in
       let same : (u : ℕ) → a.0 u ≡ end.routes u = λ u. (let b = a.1 u in b.2 ∙ all_settle b.0 u b.1) in
       subst (IsTop w size end.routes v) (all_settle (time (suc n)) v (grows n)) (top_same a.0 end.routes v same (h (time (suc n)) v) a.2)
 
-  pub settle : (s : Routes) × ((t v : ℕ) → time (rounds_needed w) ≤ t → h t v ≡ s v) × ((v : ℕ) → chooses w.net w.alive v ≡ true → IsTop w size s v (s v))
+  pub settle : (s : Routes) × ((t v : ℕ) → time (rounds_needed routers) ≤ t → h t v ≡ s v) × ((v : ℕ) → chooses w.net w.alive v ≡ true → IsTop w size s v (s v))
   settle = (end.routes, all_settle, stable)
 
 pub ties_settle : TiesSettle
-ties_settle w size sized wf rules h time runs grows rounds = settle w size sized wf (everywhere w.net w.graph wf rules) h time runs grows rounds
+ties_settle w size routers below sized wf rules h time runs grows rounds = settle w size routers below sized wf (everywhere w.net w.graph wf rules) h time runs grows rounds

@@ -1,6 +1,6 @@
 -- What locations hold as time goes on, where each router chooses now and then over what its neighbours held at some time before, one of
 -- the first of it: by number and then by size, with ties broken in any way that is steady.
-use Rattle.std.specs.Prelude.{ℕ, ◌≡◌, ◌≤◌, ◌*◌, suc, Bool, true, false, List, ◌∷◌, Option, Some, None}
+use Rattle.std.specs.Prelude.{ℕ, ◌≡◌, ◌≤◌, ◌<◌, ◌+◌, ◌*◌, suc, Bool, true, false, List, ◌∷◌, Option, Some, None}
 use Rattle.routing_law.specs.Graph.{MeetsRules, WellFormed, run}
 use Rattle.routing_law.specs.Network.{chooses, loop_free}
 use Rattle.routing_law.specs.Outcome.{Route, Routes, Setup, heard, own_route}
@@ -49,13 +49,14 @@ abbrev pub IsSteady : Setup → Size → History → ℕ → ℕ → Type 0
 IsSteady w size h start end =
     (v : ℕ) (tied : ℕ → Bool) → chooses w.net w.alive v ≡ true → AreTied w size h start v tied → AreStill h start tied → (t : ℕ) → end ≤ t → h t v ≡ h end v
 
--- so many rounds are enough
-abbrev pub rounds_needed : Setup → ℕ
-rounds_needed w = suc w.net.size * suc w.net.size
+-- So many rounds are enough where there are so many routers: each of them settles after at most as many as the longest path has places, and one.
+abbrev pub rounds_needed : ℕ → ℕ
+rounds_needed routers = routers * (routers + 2)
 
 -- Whatever is held at first, in whatever order and however late routers hear and choose, and however they break ties: after so many rounds each
--- location holds a route for good, and in what is held then no router is given one that comes sooner than its own.
+-- location holds a route for good, and in what is held then no router is given one that comes sooner than its own. Routers have the lowest numbers.
 abbrev pub TiesSettle : Type 0
-TiesSettle = (w : Setup) (size : Size) → IsSize w size → WellFormed w.net w.graph → MeetsRules w.net w.graph → (h : History) (time : ℕ → ℕ) → HoldsRuns w h (time 0)
-    → ((k : ℕ) → time k ≤ time (suc k)) → ((k : ℕ) → k ≤ rounds_needed w → IsRound w size h (time k) (time (suc k)) × IsSteady w size h (time k) (time (suc k)))
-    → (s : Routes) × ((t v : ℕ) → time (rounds_needed w) ≤ t → h t v ≡ s v) × ((v : ℕ) → chooses w.net w.alive v ≡ true → IsTop w size s v (s v))
+TiesSettle = (w : Setup) (size : Size) (routers : ℕ) → ((v : ℕ) → w.net.router v ≡ true → v < routers) → IsSize w size → WellFormed w.net w.graph → MeetsRules w.net w.graph
+    → (h : History) (time : ℕ → ℕ) → HoldsRuns w h (time 0) → ((k : ℕ) → time k ≤ time (suc k))
+    → ((k : ℕ) → k ≤ rounds_needed routers → IsRound w size h (time k) (time (suc k)) × IsSteady w size h (time k) (time (suc k)))
+    → (s : Routes) × ((t v : ℕ) → time (rounds_needed routers) ≤ t → h t v ≡ s v) × ((v : ℕ) → chooses w.net w.alive v ≡ true → IsTop w size s v (s v))

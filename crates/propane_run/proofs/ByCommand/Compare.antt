@@ -2,13 +2,16 @@
 use Rattle.std.proofs.Common.{◌≡◌, ◌≢◌, ◌⊎◌, ℕ, List, [], ◌∷◌, Option, inl, inr, refl, subst}
 use Rattle.input_output.specs.Outside.{Rose}
 use Rattle.net_base.specs.Network.{PlainNet, IsNet}
-use Rattle.policy_base.specs.Policies.{PlainPolicy}
+use Rattle.policy_base.specs.Policies.{IsPolicyOf, PlainPolicy}
+use Rattle.policy_parser.proofs.FittingPolicies.{read_policies_fit}
+use Rattle.policy_law.proofs.OriginSets.{origins_are_sets}
 use Rattle.policy_law.proofs.Texts.{policies_are_meant, policy_is_spelled}
+use Rattle.comparison_law.specs.Laws.{HaveSets}
 use Rattle.comparison_maker.specs.declared.refusal.ComparisonRefusal.{ComparisonRefusal}
 use Rattle.compare_jobs.specs.Compared.{IsPastLimit, SaysOfPolicies, SaysOfTexts}
-use Rattle.compare_jobs.specs.Refused.{IsOfCase, refusal_line}
+use Rattle.compare_jobs.specs.Refused.{refusal_line}
 use Rattle.compare_jobs.proofs.CompareLaws.{at_policies, ends_refused, ends_well, of_policies}
-use Rattle.compare_jobs.proofs.Telling.{unchanged_texts, untold}
+use Rattle.compare_jobs.proofs.Telling.{same_policies, told as differing, unchanged_texts, untold}
 use Rattle.input_texts.proofs.Asking.{net_of_spelled}
 use Rattle.input_texts.specs.Asked.{SpellFor}
 use Rattle.run_base.specs.declared.outcome.Status.{Status}
@@ -67,6 +70,13 @@ module _ (holds : Holds) (words : List (List ℕ)) where
         says = f.says;
       }
 
+  -- the origins of what was read are sets
+  old_sets : (net : PlainNet) (old new : PlainPolicy) → AsksCompare holds words net old new → HaveSets old
+  old_sets net old new asks o at = origins_are_sets net asks.asked.policy_text old o asks.asked.policy_meant at
+
+  new_sets : (net : PlainNet) (old new : PlainPolicy) → AsksCompare holds words net old new → HaveSets new
+  new_sets net old new asks o at = origins_are_sets net asks.new_text new o asks.new_meant at
+
   module _ {S : Type 0} (taken : S → Option (List ℕ)) (before now : S) (b : List ℕ) (written : Whole taken b before now) where
     right_of : (net : PlainNet) (old new : PlainPolicy) → IsNet net → AsksCompare holds words net old new → SaysOfPolicies net old new (text b) → ComparesRight holds taken words before now
     right_of net old new rules asks (inl h) =
@@ -78,8 +88,10 @@ module _ (holds : Holds) (words : List (List ℕ)) where
           bytes = h.0;
           written = rw (out_is _ _ h.2) at written;
           compared = h.1;
-          same = λ n fits is. unchanged_texts net old new h.0 n rules h.1 fits is;
+          unchanged = λ n fits is. unchanged_texts net old new h.0 n rules h.1 fits is;
+          same = λ all. same_policies net old new h.0 rules (old_sets net old new asks) (new_sets net old new asks) h.1 all;
           untold = λ p prefix none. untold net old new h.0 p rules h.1 prefix none;
+          told = λ x at changed. differing net old new h.0 x rules (old_sets net old new asks) (new_sets net old new asks) h.1 at changed;
         }
     right_of net old new rules asks (inr h) = absurd (let s = status_is _ _ h.2 in cc)
 
@@ -100,6 +112,13 @@ module _ (holds : Holds) (words : List (List ℕ)) where
 
   module _ (net : PlainNet) (old new : PlainPolicy) (asks : AsksCompare holds words net old new) {O E : Type 0} (ot : O → Option (List ℕ)) (of : O → ℕ)
       (et : E → Option (List ℕ)) (ef : E → ℕ) (out out' : O) (err err' : E) (ended : Status) where
+    -- both policies fit the network
+    old_kept : IsPolicyOf net old
+    old_kept = let spell = spells holds words c net old asks.asked in read_policies_fit net spell.policy_text old spell.policy_spelled
+
+    new_kept : IsPolicyOf net new
+    new_kept = read_policies_fit net asks.new_text new (policy_is_spelled net asks.new_text new asks.new_meant)
+
     told : (wanted : Said) → SaidOfTold holds (names_read words c) (Job c) wanted → SaysOfPolicies net old new wanted
     told wanted said =
         let spell = spells holds words c net old asks.asked in
@@ -120,10 +139,10 @@ module _ (holds : Holds) (words : List (List ℕ)) where
     compared_where none calm (inl m) = inl m
     compared_where none calm (inr w) = inr (done_by none calm w.0 (told w.0 w.1) w.2)
 
-    pub limited_where : (e : ComparisonRefusal) → IsOfCase e → IsPastLimit net old new e → (Rose (ef err) (ef err') → ⊥)
+    pub limited_where : (e : ComparisonRefusal) → IsPastLimit net old new e → (Rose (ef err) (ef err') → ⊥)
         → Gives ot of et ef out out' err err' ended (SaidOfTold holds (names_read words c) (Job c))
         → (ended ≡ NoMemory) ⊎ (ended ≡ Refused) × Whole et (refusal_line net e) err err' × (out' ≡ out)
-    limited_where e of_case past calm (inl m) = inl m
-    limited_where e of_case past calm (inr w) =
-        let is = ends_refused net old new w.0 e of_case past (told w.0 w.1) in
+    limited_where e past calm (inl m) = inl m
+    limited_where e past calm (inr w) =
+        let is = ends_refused net old new old_kept new_kept e w.0 past (told w.0 w.1) in
         inr (line_sent ot of et ef out out' err err' ended Refused (refusal_line net e) calm (subst (λ x. Delivered ot of et ef x out out' err err' ended) is w.2))

@@ -43,4 +43,6 @@ pub returns-clause-room : goal.returns-clause-room
 returns-clause-room c = omega (arith, ap length c.steps.ensures.steps, c.in_ok-both.ensures.room)
 
 pub returns-clause-used : goal.returns-clause-used
-returns-clause-used c = record { pairs = c.in_ok-both.both.pairs; both = c.in_ok-both.both.graph; is = c.in_ok-both.ensures.graph; steps = omega (arith, ap length c.steps.ensures.steps) }
+returns-clause-used c =
+    let all = c.in_ok-both.ensures.steps in
+    record { ways = all.ways; are = all.are; all = all.all; steps = omega (arith, ap length c.steps.ensures.steps, all.steps) }

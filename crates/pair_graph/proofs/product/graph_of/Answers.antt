@@ -27,9 +27,9 @@ invariant_of-result c =
     }
 
 pub returns-clause-graph : goal.returns-clause-graph
-returns-clause-graph c = λ g h width k walks all is.
+returns-clause-graph c = λ g h k walks all is.
     let grown = c.args.growing in
     let same : c.new.result ≡ graph_over grown.pairs.keys c.args.starts grown.steps.items =
     c.new.ensures ∙ (λ i. record { nodes = c.in_ok-nodes.ensures i; starts = c.in_ok-starts.ensures i; steps = c.into_parts-before.ensures.steps i }) in
     subst (λ p. IsPairGraph g h c.in_ok-pairs.pairs p) (sym same) (subst (λ (xs : List NodePair). IsPairGraph g h xs (graph_over grown.pairs.keys c.args.starts grown.steps.items)) (sym c.in_ok-pairs.ensures)
-    (is_pair_graph g h width c.args.starts grown.pairs.keys grown.before.items grown.steps.items k walks all is))
+    (is_pair_graph g h c.args.starts grown.pairs.keys grown.before.items grown.steps.items k walks all is))

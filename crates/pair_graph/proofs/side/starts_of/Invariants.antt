@@ -1,9 +1,6 @@
-use Rattle.std.proofs.Common.{◌≡◌, length, take}
-use Rattle.pair_graph.proofs.Tables.{AreNoted}
+use Rattle.std.proofs.Common.{◌≡◌, map, take}
+use Rattle.pair_graph.proofs.GraphWays.{start_way}
 use Rattle.pair_graph.proofs.side.starts_of.Given as goal
 
-abbrev pub invariant-loop-start : goal.invariant-loop-start
-invariant-loop-start l = record {
-  size : length l.table.items ≡ l.width;
-  noted : AreNoted l.graph (take l.start-index l.graph.starts) l.table.items;
-}
+abbrev pub invariant-loop-i : goal.invariant-loop-i
+invariant-loop-i l = l.ways.items ≡ map (start_way l.graph) (take l.i l.graph.starts)

@@ -1,9 +1,10 @@
-use Rattle.std.proofs.Common.{◌≡◌, ◌*◌, length, take}
-use Rattle.pair_graph.proofs.Tables.{AreRows}
+use Rattle.std.proofs.Common.{◌≡◌, map, take}
+use Rattle.pair_graph.specs.Ways.{AreLow}
+use Rattle.pair_graph.proofs.GraphWays.{step_way}
 use Rattle.pair_graph.proofs.side.steps_of.Given as goal
 
-abbrev pub invariant-loop-from : goal.invariant-loop-from
-invariant-loop-from l = record {
-  size : length l.table.items ≡ length l.graph.nodes * l.width;
-  noted : AreRows l.graph l.width (take l.from-index l.graph.steps) l.table.items;
+abbrev pub invariant-loop-i : goal.invariant-loop-i
+invariant-loop-i l = record {
+  ways : l.ways.items ≡ map (step_way l.graph) (take l.i l.graph.steps);
+  low : AreLow l.ways.items;
 }

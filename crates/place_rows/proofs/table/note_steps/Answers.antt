@@ -2,7 +2,7 @@ use Rattle.std.proofs.Common.{◌≡◌, ◌++◌, ◌<◌, ◌∙◌, ℕ, List
 use Rattle.std.specs.List.{flat_map}
 use Rattle.compare_base.specs.declared.rows.Place.{Place}
 use Rattle.pair_graph.specs.declared.pair.NodePair.{NodePair}
-use Rattle.pair_graph.proofs.Tables.{step_read}
+use Rattle.graph_base.proofs.StartsAndSteps.{step_ends}
 use Rattle.pair_rows.specs.declared.values.Met.{Met}
 use Rattle.pair_rows.specs.Meetings.{step_mets}
 use Rattle.place_rows.specs.Noted.{AreNoted}
@@ -17,7 +17,7 @@ loop-from-preserved c =
     let items = c.steps-from-items.result.now in
     let n = c.loop-from.from-index in
     let s : ℕ × ℕ = get_or items n (0, 0) in
-    let nodes = step_read both.graph items n c.steps-from-items.ensures.rules c.steps-from-items.ensures.steps c.loop-from-test.true in
+    let nodes = step_ends both.graph items n c.steps-from-items.ensures.rules c.steps-from-items.ensures.steps c.loop-from-test.true in
     let from = pair_read both.pairs c.as_slice-pairs.result.now s.0 c.index-pairs-from.result c.as_slice-pairs.ensures (omega (arith, nodes.0, c.requires.pairs)) c.index-pairs-from.is in
     let to = pair_read both.pairs c.as_slice-pairs.result.now s.1 c.index-pairs-to.result c.as_slice-pairs.ensures (omega (arith, nodes.1, c.requires.pairs)) c.index-pairs-to.is in
     let within : n < length both.graph.steps = omega (arith, c.loop-from-test.true, ap length c.steps-from-items.ensures.steps) in

@@ -22,5 +22,5 @@ returns-clause-alike c =
     let other = c.in_ok-again.ensures.said in
     let held = told c.in_ok-inputs.inputs in
     let before = said_before held (told c.compile_held.new.inputs) c.compile_held.ensures.holds (names_read compile_words Compile) (Job Compile) other.0 other.1 in
-    let same = c.told_texts_come_to_one_thing.ensures held compile_words Compile one.0 other.0 tt one.1 before in
+    let same = c.told_texts_come_to_one_thing.ensures held compile_words Compile one.0 other.0 one.1 before in
     alike _ _ one.0 other.0 same one.2 other.2

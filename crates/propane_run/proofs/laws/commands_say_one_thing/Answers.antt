@@ -2,4 +2,4 @@ use Rattle.propane_run.proofs.Dispatch.{job_is}
 use Rattle.propane_run.proofs.laws.commands_say_one_thing.Goals as goal
 
 pub returns : goal.returns
-returns c = λ command bs one other pinned. (job_is command pinned).one bs one other
+returns c = λ command bs one other. (job_is command).one bs one other

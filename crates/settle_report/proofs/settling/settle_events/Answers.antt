@@ -7,7 +7,7 @@ use Rattle.event_base.specs.Speaking.{speakers_of}
 use Rattle.event_base.specs.Steps.{opening, run}
 use Rattle.event_base.specs.World.{Speakers, World}
 use Rattle.event_state.specs.States.{setting, speakers, state}
-use Rattle.rest_law.proofs.Ended.{passing_evidence_comes_to_rest}
+use Rattle.event_rest.proofs.Corner.{passing_evidence_comes_to_rest}
 use Rattle.rest_law.specs.Rest.{ComesToRest, rounds_enough}
 use Rattle.settle_report.proofs.Settled.{HasRested, settlement}
 use Rattle.settle_report.specs.Lines.{deliveries_line, rounds_line}

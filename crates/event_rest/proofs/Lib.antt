@@ -1,0 +1,3 @@
+pub mod Timed
+pub mod Turns
+pub mod Corner
