@@ -1,6 +1,6 @@
 -- What is found of a pair of cases is what changes for its prefixes.
-use Rattle.std.proofs.Common.{◌≡◌, ℕ, ◌<◌, true, List, filter, sym, ap, ◌∙◌, subst, arith, Option, Some}
-use Rattle.std.specs.Prelude.{option_map, slice_get}
+use Rattle.std.proofs.Common.{◌≡◌, ℕ, ◌<◌, true, List, filter, sym, ap, ◌∙◌, subst, arith, None, Option, Some}
+use Rattle.std.specs.Prelude.{IsTrue, option_map, slice_get}
 use Rattle.std.proofs.lemmas.Option.{slice_get_within}
 use Rattle.list_law.specs.Members.{IsIn}
 use Rattle.list_law.proofs.Items.{slice_get_inside}
@@ -15,13 +15,15 @@ use Rattle.compare_base.specs.declared.rows.Kind.{Kind}
 use Rattle.compare_base.specs.declared.rows.Place.{Place}
 use Rattle.compare_base.specs.declared.rows.Row.{Row}
 use Rattle.compare_base.specs.declared.rows.Words.{Words}
-use Rattle.compare_base.specs.Cases.{pair_for}
+use Rattle.compare_base.specs.declared.cases.CasePair.{CasePair}
+use Rattle.compare_base.specs.Cases.{is_place, pair_for}
 use Rattle.compare_base.specs.Ranks.{IsFirstWalk}
 use Rattle.pair_rows.specs.declared.values.FirstRow.{FirstRow}
 use Rattle.pair_rows.specs.Meetings.{AreFirst, all_mets, mets_at, rows_alone}
 use Rattle.pair_rows.specs.Rows.{AreCompared, AreRows, from_peer}
 use Rattle.pair_rows.proofs.EarlierRows.{rows_are_one}
 use Rattle.pair_rows.proofs.FirstWalks.{first_walks, rows_are}
+use Rattle.place_rows.specs.Told.{is_told}
 use Rattle.row_words.specs.WordsOfRows.{shown_rows, words_of}
 use Rattle.pair_changes.specs.declared.ways.Way.{Way}
 use Rattle.pair_changes.specs.Changes.{AreCarriers, AreFirstWalks, AreInOrder, ComesBefore, ComesFirst, Differs, IsExample, IsKind, IsPairChange, IsPlace}
@@ -32,20 +34,28 @@ use Rattle.pair_changes.proofs.Examples.{example_by}
 use Rattle.pair_changes.proofs.InOrder.{order_filter}
 use Rattle.pair_changes.proofs.KindTests.{of_from, of_parts, so_parts}
 
+-- a place of a pair is a router or a session to a peer
+places_are_told : (net : PlainNet) (cases : CasePair) (r : ℕ) (peer : Option ℕ) → IsTrue (is_place net cases r peer) → IsTrue (is_told net r peer)
+places_are_told net cases r None is = search
+places_are_told net cases r (Some q) is = search
+
 module _ (net : PlainNet) (old new : PlainPolicy) (p : PlainPrefix) where
   module _ (g h both : PlainGraph) (pairs : List NodePair) (are : AreCompared net old new p g h pairs both) (firsts : Place → List FirstRow)
-      (met : (place : Place) → AreFirst (mets_at (all_mets g h pairs both) place) (firsts place)) where
+      (met : (place : Place) → IsTrue (is_told net place.router place.peer) → AreFirst (mets_at (all_mets g h pairs both) place) (firsts place)) where
     abbrev way : Place → Option Way
     way q = way_by (rows_alone (firsts q))
 
-    rows_at : (place : Place) → AreRows net old new p place (rows_alone (firsts place))
-    rows_at place = rows_are net old new p g h both pairs are place (firsts place) (met place)
+    met_there : (place : Place) → IsPlace net old new p place → AreFirst (mets_at (all_mets g h pairs both) place) (firsts place)
+    met_there place is = met place (places_are_told net (pair_for old new p) place.router place.peer is)
+
+    rows_at : (place : Place) → IsPlace net old new p place → AreRows net old new p place (rows_alone (firsts place))
+    rows_at place is = rows_are net old new p g h both pairs are place (firsts place) (met_there place is)
 
     -- ---- how a place differs
 
     way_of : (words : Words) (shown : List Row) (place : Place) → Differs net old new p words shown place → way place ≡ Some (record { words = words; rows = shown })
     way_of words shown place d =
-        let same : d.rows ≡ rows_alone (firsts place) = rows_are_one net old new p place d.rows (rows_alone (firsts place)) d.are_rows (rows_at place) in
+        let same : d.rows ≡ rows_alone (firsts place) = rows_are_one net old new p place d.rows (rows_alone (firsts place)) d.are_rows (rows_at place d.is_place) in
         ap way_by (sym same) ∙ ap (option_map (λ (w : Words). record { words = w; rows = shown_rows d.rows })) d.in_words
         ∙ ap (λ (xs : List Row). Some (record { words = words; rows = xs })) (sym d.are_shown)
 
@@ -55,7 +65,7 @@ module _ (net : PlainNet) (old new : PlainPolicy) (p : PlainPrefix) where
         record {
           is_place = is;
           rows = rows_alone (firsts place);
-          are_rows = rows_at place;
+          are_rows = rows_at place is;
           in_words = found.1 ∙ ap (λ (v : Way). Some v.words) found.2;
           are_shown = ap (λ (v : Way). v.rows) (sym found.2);
         }
@@ -80,13 +90,18 @@ module _ (net : PlainNet) (old new : PlainPolicy) (p : PlainPrefix) where
             subst (λ (ps : List Place). IsIn ps place) (sym (is.places ∙ grouped.each a at))
             (IsIn-filter (λ q. differs_so a (way q)) places place ((all.those place).1 d.is_place) on)
 
-        walks_are : (place : Place) (walks : List (List ℕ)) → AreWalks both (firsts place) place.peer a.rows walks → AreFirstWalks net old new p place a.rows walks
-        walks_are place walks found = record {
+        is_there : (place : Place) → IsIn a.places place → IsPlace net old new p place
+        is_there place at_a =
+            let among : IsIn (filter (λ q. differs_so a (way q)) places) place = subst (λ (ps : List Place). IsIn ps place) (grouped.each a at) at_a in
+            (all.those place).0 (IsIn-filter_parts (λ q. differs_so a (way q)) places place among).0
+
+        walks_are : (place : Place) (walks : List (List ℕ)) → IsIn a.places place → AreWalks both (firsts place) place.peer a.rows walks → AreFirstWalks net old new p place a.rows walks
+        walks_are place walks at_a found = record {
           count = found.count;
           each = λ i row walk at_row at_walk. (
               let x = found.each i row walk at_row at_walk in
               let first : IsFirstWalk net old new p place.router place.peer x.0.row (from_peer place.peer x.3.0) =
-              first_walks net old new p g h both pairs are place (firsts place) (met place) x.0 x.3.0 x.1 x.3.1 in
+              first_walks net old new p g h both pairs are place (firsts place) (met_there place (is_there place at_a)) x.0 x.3.0 x.1 x.3.1 in
               subst (λ (w : List ℕ). IsFirstWalk net old new p place.router place.peer row w) (sym x.3.2)
               (subst (λ (y : Row). IsFirstWalk net old new p place.router place.peer y (from_peer place.peer x.3.0)) x.2 first));
         }

@@ -1,24 +1,25 @@
 -- The place by whose walks a kind is shown, as one place after the other is looked at.
-use Rattle.std.proofs.Common.{◌≡◌, ℕ, ◌+◌, ◌<◌, ◌≤◌, List, [], ◌∷◌, ◌++◌, get_or, length, take, refl, sym, ap, ◌∙◌, subst, arith, inl, inr}
+use Rattle.std.proofs.Common.{◌≡◌, ℕ, ◌+◌, ◌<◌, ◌≤◌, List, [], ◌∷◌, ◌++◌, drop, get_or, length, length-take, take, refl, sym, ap, ◌∙◌, subst, arith, inl, inr}
 use Rattle.std.specs.Prelude.{nat_lt, if◌then◌else◌}
 use Rattle.std.proofs.lemmas.Bool.{cases_lt, le-ltb, lt-ltb}
 use Rattle.std.proofs.lemmas.Option.{slice_get_within}
 use Rattle.group_law.proofs.Taken.{take_next}
 use Rattle.list_law.proofs.Items.{from_front, slice_get-there, slice_get_in_front}
+use Rattle.list_law.specs.Members.{IsIn}
 use Rattle.compare_base.specs.declared.rows.Place.{Place}
 use Rattle.pair_changes.specs.Changes.{IsExample, paths}
 use Rattle.pair_changes.proofs.WalkLists.{only}
 
 -- places that have walks in one sense have them in another
 pub example_by : (Has Have : Place → List (List ℕ) → Type 0) (places : List Place) (walks : List (List ℕ))
-    → ((place : Place) (theirs : List (List ℕ)) → Has place theirs → Have place theirs) → IsExample Has places walks → IsExample Have places walks
+    → ((place : Place) (theirs : List (List ℕ)) → IsIn places place → Has place theirs → Have place theirs) → IsExample Has places walks → IsExample Have places walks
 example_by Has Have places walks so is = record {
   index = is.index;
   place = is.place;
   there = is.there;
-  has = so is.place walks is.has;
-  most = λ i other at. let theirs = is.most i other at in (theirs.0, so other theirs.0 theirs.1, theirs.2);
-  first = λ i other less at. let theirs = is.first i other less at in (theirs.0, so other theirs.0 theirs.1, theirs.2);
+  has = so is.place walks (is.index, is.there) is.has;
+  most = λ i other at. let theirs = is.most i other at in (theirs.0, so other theirs.0 (i, at) theirs.1, theirs.2);
+  first = λ i other less at. let theirs = is.first i other less at in (theirs.0, so other theirs.0 (i, at) theirs.1, theirs.2);
 }
 
 module _ (Has : Place → List (List ℕ) → Type 0) where
@@ -74,3 +75,25 @@ module _ (Has : Place → List (List ℕ) → Type 0) where
       → IsExample Has (take n places) walks → Has place theirs → better ≡ (if nat_lt (paths walks) (paths theirs) then theirs else walks) → IsExample Has (take (n + 1) places) better
   example_next places n place walks theirs better within read was has is =
       subst (λ (ps : List Place). IsExample Has ps better) (sym (take_next places n place within read)) (example_more (take n places) place walks theirs was has better is)
+
+  -- Walks of which no place has more without a loop are those of all places, where they are those of the first ones.
+  pub example_enough : (places : List Place) (n : ℕ) (walks : List (List ℕ)) → n ≤ length places → IsExample Has (take n places) walks
+      → ((other : Place) → IsIn places other → (theirs : List (List ℕ)) × Has other theirs × (paths theirs ≤ paths walks)) → IsExample Has places walks
+  example_enough places n walks within was enough = record {
+    index = was.index;
+    place = was.place;
+    there = in_all was.index was.place was.there;
+    has = was.has;
+    most = λ i other at. enough other (i, at);
+    first = λ i other less at. was.first i other less (in_first i other (omega (arith, less, slice_get_within (take n places) was.index was.place was.there, length-take n places, within)) at);
+  }
+    where
+      joined : take n places ++ drop n places ≡ places
+      joined = take-append-drop n places
+
+      in_all : (i : ℕ) (x : Place) → slice_get (take n places) i ≡ Some x → slice_get places i ≡ Some x
+      in_all i x at = ap (λ (ps : List Place). slice_get ps i) (sym joined) ∙ slice_get_in_front (take n places) (drop n places) i x at
+
+      in_first : (i : ℕ) (x : Place) → i < n → slice_get places i ≡ Some x → slice_get (take n places) i ≡ Some x
+      in_first i x less at =
+          from_front (take n places) (drop n places) i x (ap (λ (ps : List Place). slice_get ps i) joined ∙ at) (omega (arith, less, length-take n places, within))

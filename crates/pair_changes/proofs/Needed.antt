@@ -1,11 +1,14 @@
 -- Nodes of rows are nodes of the graph, and the rows of a kind are rows of each of its places.
-use Rattle.std.proofs.Common.{◌≡◌, ◌<◌, List, filter, length, sym, ap, ◌∙◌, subst, arith, inl, inr, Some}
+use Rattle.std.proofs.Common.{◌≡◌, ◌<◌, false, List, [], filter, length, sym, ap, ◌∙◌, subst, arith, inl, inr, Some}
+use Rattle.std.specs.Prelude.{IsTrue}
 use Rattle.std.specs.List.{find, flat_map}
+use Rattle.std.proofs.lemmas.Bool.{cases_Bool}
 use Rattle.std.proofs.lemmas.Option.{slice_get_within}
 use Rattle.list_law.specs.Members.{IsIn}
 use Rattle.list_law.proofs.Members.{IsIn-append_cases, IsIn-filter_parts, IsIn-flat_map_parts, IsIn-map_parts}
 use Rattle.list_law.proofs.Options.{option_map_parts}
 use Rattle.list_law.proofs.Tests.{find_from, find_parts}
+use Rattle.net_base.specs.Network.{PlainNet}
 use Rattle.graph_base.specs.Graphs.{PlainGraph}
 use Rattle.pair_graph.specs.declared.pair.NodePair.{NodePair}
 use Rattle.compare_base.specs.declared.rows.Kind.{Kind}
@@ -17,6 +20,7 @@ use Rattle.pair_rows.specs.declared.values.FirstRow.{FirstRow}
 use Rattle.pair_rows.specs.Meetings.{AreFirst, all_mets, is_at, mets_at, node_mets, rows_alone, step_mets}
 use Rattle.pair_rows.proofs.RowsMet.{node_met_parts, step_met_parts}
 use Rattle.place_rows.proofs.Order.{row_is, row_same}
+use Rattle.place_rows.specs.Told.{is_told}
 use Rattle.row_words.specs.WordsOfRows.{is_shown, shown_rows, words_of}
 use Rattle.pair_changes.specs.declared.ways.Way.{Way}
 use Rattle.pair_changes.specs.Kinds.{AreKinds, differs_so, way_by}
@@ -36,6 +40,18 @@ nodes_within g h both pairs firsts place x size met at =
           let step = step_met_parts g h pairs some.0 found.0 some.2 in
           omega (arith, slice_get_within pairs some.0.0 step.from step.at_from, step.node, found.3, size)
     ]
+
+-- so they are where a place that isn't told has no rows
+pub nodes_within_any : (net : PlainNet) (g h both : PlainGraph) (pairs : List NodePair) (firsts : List FirstRow) (place : Place) (x : FirstRow) → length pairs ≡ length both.nodes
+    → (IsTrue (is_told net place.router place.peer) → AreFirst (mets_at (all_mets g h pairs both) place) firsts) → (is_told net place.router place.peer ≡ false → firsts ≡ [])
+    → IsIn firsts x → x.node < length both.nodes
+nodes_within_any net g h both pairs firsts place x size met none at = elim (cases_Bool (is_told net place.router place.peer)) [
+  | inl t ↦ nodes_within g h both pairs firsts place x size (met t) at
+  | inr t ↦ absurd (nothing (subst (λ (xs : List FirstRow). IsIn xs x) (none t) at))
+]
+  where
+    nothing : IsIn [] x → ⊥
+    nothing (i, here) = cc
 
 module _ (firsts : Place → List FirstRow) (places : List Place) (bare : List Kind) (grouped : AreKinds (λ q. way_by (rows_alone (firsts q))) places bare) where
   pub some_place : (kind : Kind) → IsIn bare kind → 0 < length kind.places

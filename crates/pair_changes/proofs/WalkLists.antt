@@ -5,11 +5,15 @@ use Rattle.std.proofs.lemmas.Bool.{cases_lt}
 use Rattle.std.proofs.lemmas.Option.{same_Some}
 use Rattle.group_law.proofs.Taken.{take_next}
 use Rattle.list_law.proofs.Items.{from_front}
+use Rattle.list_law.specs.Members.{IsIn}
 use Rattle.graph_base.specs.Graphs.{PlainGraph}
+use Rattle.graph_base.specs.Walks.{IsEnteredFromBefore, shown_walk}
+use Rattle.graph_base.proofs.ShownWalks.{shown_walk_is}
 use Rattle.compare_base.specs.declared.rows.Kind.{Kind}
 use Rattle.compare_base.specs.declared.rows.Place.{Place}
 use Rattle.compare_base.specs.declared.rows.Row.{Row}
 use Rattle.pair_rows.specs.declared.values.FirstRow.{FirstRow}
+use Rattle.pair_rows.specs.Rows.{from_peer}
 use Rattle.pair_changes.specs.Walks.{AreAllShown, AreWalks, IsShown, IsWalkOf}
 
 -- what stands behind the others is the last item
@@ -47,6 +51,26 @@ module _ (g : PlainGraph) (firsts : List FirstRow) (peer : Option ℕ) where
         count = length-append walks (walk ∷ []) ∙ ap (λ k. k + 1) so_far.count ∙ sym (length-append (take n rows) (row ∷ []));
         each = fit_more (IsWalkOf g firsts peer) (take n rows) walks row walk so_far.count so_far.each last;
       })
+
+  -- each row has such a walk, where each node was entered
+  pub walks_exist : IsEnteredFromBefore g → (rows : List Row) → ((x : FirstRow) → IsIn firsts x → x.node < length g.nodes)
+      → ((row : Row) → IsIn rows row → (x : FirstRow) × IsIn firsts x × (x.row ≡ row)) → (walks : List (List ℕ)) × AreWalks g firsts peer rows walks
+  walks_exist entered [] within known = ([], walks_none)
+  walks_exist entered (row ∷ rows) within known =
+      let x = known row (0, refl) in
+      let rest = walks_exist entered rows within (λ other at. known other (suc at.0, at.1)) in (
+        from_peer peer (shown_walk g x.0.node) ∷ rest.0,
+        record {
+          count = ap suc rest.1.count;
+          each = each x.0 (x.0, x.1, x.2, shown_walk g x.0.node, shown_walk_is g entered x.0.node (within x.0 x.1), refl) rest.0 rest.1;
+        },
+      )
+    where
+      each : (x : FirstRow) → IsWalkOf g firsts peer row (from_peer peer (shown_walk g x.node)) → (walks : List (List ℕ)) → AreWalks g firsts peer rows walks
+          → (i : ℕ) (r : Row) (walk : List ℕ) → slice_get (row ∷ rows) i ≡ Some r → slice_get (from_peer peer (shown_walk g x.node) ∷ walks) i ≡ Some walk → IsWalkOf g firsts peer r walk
+      each x first walks others zero r walk at_r at_walk =
+          subst₂ (λ (a : Row) (w : List ℕ). IsWalkOf g firsts peer a w) (same_Some row r at_r) (same_Some (from_peer peer (shown_walk g x.node)) walk at_walk) first
+      each x first walks others (suc i) r walk at_r at_walk = others.each i r walk at_r at_walk
 
 module _ (g : PlainGraph) (firsts : Place → List FirstRow) where
   pub shown_none : AreAllShown g firsts [] []

@@ -1,5 +1,6 @@
 -- What is found by graphs that show the walks of a prefix in two policies is what these change for it.
 use Rattle.std.proofs.Common.{◌≡◌, ℕ, List, sym, subst}
+use Rattle.std.specs.Prelude.{IsTrue}
 use Rattle.net_base.specs.declared.loc.LocSet.{LocSet}
 use Rattle.net_base.specs.Network.{PlainNet}
 use Rattle.net_base.specs.Prefixes.{PlainPrefix}
@@ -14,6 +15,7 @@ use Rattle.compare_base.specs.declared.rows.Place.{Place}
 use Rattle.compare_base.specs.Cases.{pair_for}
 use Rattle.pair_rows.specs.declared.values.FirstRow.{FirstRow}
 use Rattle.pair_rows.specs.Meetings.{AreFirst, all_mets, mets_at, rows_alone}
+use Rattle.place_rows.specs.Told.{is_told}
 use Rattle.pair_changes.specs.Carriers.{all_in_one_alone, has_node_at}
 use Rattle.pair_changes.specs.Changes.{IsPairChange}
 use Rattle.pair_changes.specs.Kinds.{AreKinds, way_by}
@@ -25,7 +27,7 @@ use Rattle.pair_changes.proofs.Changed.{is_change}
 
 module _ (net : PlainNet) (old new : PlainPolicy) (p : PlainPrefix) (g h both : PlainGraph) (pairs : List NodePair) (is : IsPairGraph g h pairs both) (rules : IsGraph both) (rules_old : IsGraph g)
     (rules_new : IsGraph h) (shows_old : ShowsWalks net old p g) (shows_new : ShowsWalks net new p h) (firsts : Place → List FirstRow)
-    (met : (place : Place) → AreFirst (mets_at (all_mets g h pairs both) place) (firsts place)) (places : List Place) (bare kinds : List Kind)
+    (met : (place : Place) → IsTrue (is_told net place.router place.peer) → AreFirst (mets_at (all_mets g h pairs both) place) (firsts place)) (places : List Place) (bare kinds : List Kind)
     (grouped : AreKinds (λ q. way_by (rows_alone (firsts q))) places bare) (shown : AreAllShown both firsts bare kinds) (in_old in_new : LocSet)
     (those_old : (r : ℕ) → holds in_old r ≡ has_node_at net g.nodes r) (those_new : (r : ℕ) → holds in_new r ≡ has_node_at net h.nodes r) where
   own_change : ArePlaces net (pair_for old new p) places

@@ -44,7 +44,7 @@ pub fn pair_change(
     ensures many { IsErrOf result PairFault.TooManySteps → PassesRoom old.now new.now room }
 {
     let both = pair_graph(alloc, old, new, room)?;
-    let table = PlaceRows::new(alloc, old, new, &both)?;
+    let table = PlaceRows::new(alloc, net, old, new, &both)?;
     let places = places_of(alloc, net, cases)?;
     let bare = kinds_of(alloc, &table, places.as_slice())?;
     let kinds = shown_kinds(alloc, &both, &table, bare.as_slice())?;

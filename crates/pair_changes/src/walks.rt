@@ -1,7 +1,8 @@
 //! The walks by which kinds are shown.
-ghost use Rattle.std.specs.Prelude.{◌≡◌, ◌<◌, IfOk, length, nat_lt, if◌then◌else◌};
+ghost use Rattle.std.specs.Prelude.{◌≡◌, ◌<◌, ◌≤◌, IfOk, IsTrue, length, nat_lt, if◌then◌else◌};
 ghost use Rattle.std.specs.List.{find};
 ghost use Rattle.list_law.specs.Members.{IsIn};
+ghost use Rattle.graph_base.specs.Walks.{IsEnteredFromBefore};
 ghost use Rattle.compare_base.specs.declared.rows.Kind.{Kind as PlainKind};
 ghost use Rattle.compare_base.specs.declared.rows.Place.{Place as PlainPlace};
 ghost use Rattle.compare_base.specs.declared.rows.Row.{Row as PlainRow};
@@ -116,7 +117,14 @@ fn more_paths(walks: List<List<Loc>>, others: List<List<Loc>>) -> List<List<Loc>
     }
 }
 
-// The walks of the first of some places that shows most rows without a loop.
+// Whether these walks, one for each of some rows, all have no loop.
+fn all_paths(walks: &[List<Loc>], rows: &[Row]) -> bool
+    ensures { IsTrue result → length rows.now ≤ paths_of walks.now }
+{
+    rows.len() <= paths(walks)
+}
+
+// The walks of the first of some places that shows most rows without a loop. Behind one that shows all so no other has to be looked at.
 fn example(
     alloc: Global,
     both: &PairGraph,
@@ -128,10 +136,14 @@ fn example(
     requires nodes { (place : PlainPlace) (x : PlainFirst) → IsIn (rows_of table.now place) x → x.node < length both.now.graph.nodes }
     requires rows { (place : PlainPlace) (row : PlainRow) → IsIn places.now place → IsIn rows.now row
         → (x : PlainFirst) × IsIn (rows_of table.now place) x × (x.row ≡ row) }
+    requires entered { IsEnteredFromBefore both.now.graph }
     ensures { IfOk result (IsExample (λ place. AreWalks both.now.graph (rows_of table.now place) place.peer rows.now) places.now) }
 {
     let mut walks = walks_at(alloc, both, table, &places[0], rows)?;
     for index in 1..places.len() {
+        if all_paths(walks.as_slice(), rows) {
+            return Ok(walks);
+        }
         let others = walks_at(alloc, both, table, &places[index], rows)?;
         walks = more_paths(walks, others);
     }
@@ -149,6 +161,7 @@ fn shown_kind(
     requires nodes { (place : PlainPlace) (x : PlainFirst) → IsIn (rows_of table.now place) x → x.node < length both.now.graph.nodes }
     requires rows { (place : PlainPlace) (row : PlainRow) → IsIn kind.now.places place → IsIn kind.now.rows row
         → (x : PlainFirst) × IsIn (rows_of table.now place) x × (x.row ≡ row) }
+    requires entered { IsEnteredFromBefore both.now.graph }
     ensures { IfOk result (IsShown both.now.graph (rows_of table.now) kind.now) }
 {
     let places = kind.places.as_slice();
@@ -172,6 +185,7 @@ pub(crate) fn shown_kinds(
     requires nodes { (place : PlainPlace) (x : PlainFirst) → IsIn (rows_of table.now place) x → x.node < length both.now.graph.nodes }
     requires rows { (kind : PlainKind) (place : PlainPlace) (row : PlainRow) → IsIn kinds.now kind → IsIn kind.places place → IsIn kind.rows row
         → (x : PlainFirst) × IsIn (rows_of table.now place) x × (x.row ≡ row) }
+    requires entered { IsEnteredFromBefore both.now.graph }
     ensures { IfOk result (AreAllShown both.now.graph (rows_of table.now) kinds.now) }
 {
     let mut shown = List::new(alloc);

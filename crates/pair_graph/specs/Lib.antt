@@ -1,4 +1,5 @@
 pub mod Growth
+pub mod Hashed
 pub mod Made
 pub mod Nexts
 pub mod Order

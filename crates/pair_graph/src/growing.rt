@@ -28,17 +28,17 @@ pub(crate) struct Growing {
 }
 
 impl Growing {
-    /// No pair yet.
-    pub(crate) fn new(alloc: Global) -> Growing
-        ensures pairs { result.pairs.keys ≡ [] }
-        ensures before { result.before.items ≡ [] }
-        ensures steps { result.steps.items ≡ [] }
+    /// No pair yet, with room for so many at once.
+    pub(crate) fn new(alloc: Global, count: usize) -> Result<Growing, AllocError>
+        ensures pairs { IfOk result (λ growing. growing.pairs.keys ≡ []) }
+        ensures before { IfOk result (λ growing. growing.before.items ≡ []) }
+        ensures steps { IfOk result (λ growing. growing.steps.items ≡ []) }
     {
-        Growing {
-            pairs: IndexSet::new(alloc),
-            before: Vec::new(alloc),
+        Ok(Growing {
+            pairs: IndexSet::with_capacity(alloc, count)?,
+            before: Vec::with_capacity(alloc, count)?,
             steps: Vec::new(alloc),
-        }
+        })
     }
 
     // The number of a pair. It is put behind the others, as found from this one, where it isn't among them.

@@ -58,7 +58,8 @@ pub fn pair_graph(
     ensures many { IsErrOf result PairFault.TooManySteps → PassesRoom first.now second.now room }
 {
     let sides = Sides::new(alloc, first, second)?;
-    let mut growing = Growing::new(alloc);
+    // mostly there is a pair for each node of the greater graph, or for each of both
+    let mut growing = Growing::new(alloc, first.nodes().len() + second.nodes().len())?;
     growing.add_starts(alloc, &sides)?;
     let starts = growing.len();
     growing.walk(alloc, &sides, room)?;

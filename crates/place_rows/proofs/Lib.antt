@@ -2,3 +2,4 @@ pub mod Order
 mod Tables
 mod Mets
 mod FirstRows
+mod Placed

@@ -1,5 +1,5 @@
 -- The rows of places, where a place is added and where its rows are written.
-use Rattle.std.proofs.Common.{◌≡◌, ℕ, suc, ◌+◌, ◌<◌, Bool, true, false, List, [], ◌∷◌, ◌++◌, Vec, length, set, refl, sym, ap, ◌∙◌, arith, inl, inr, Some, None}
+use Rattle.std.proofs.Common.{◌≡◌, ◌≢◌, ℕ, zero, suc, ◌+◌, ◌<◌, ◌≤◌, Bool, true, false, List, [], ◌∷◌, ◌++◌, Vec, length, set, refl, sym, ap, ◌∙◌, arith, inl, inr, Some, None}
 use Rattle.std.specs.Prelude.{nat_lt, slice_get, if◌then◌else◌}
 use Rattle.std.specs.Global.{Global}
 use Rattle.std.specs.List.{list_any, position, position_or_len}
@@ -11,7 +11,43 @@ use Rattle.compare_base.specs.declared.rows.Place.{Place}
 use Rattle.compare_base.specs.Same.{same_place}
 use Rattle.pair_rows.specs.declared.values.FirstRow.{FirstRow}
 use Rattle.pair_rows.proofs.RowsMet.{place_is, place_same}
-use Rattle.place_rows.specs.Noted.{rows_for}
+use Rattle.place_rows.specs.Noted.{rows_at, rows_for}
+
+-- ---- rows by number
+
+-- the rows of a number are those that stand there
+pub at_read : (rows : List (Vec FirstRow Global)) (v : Vec FirstRow Global) (n : ℕ) → slice_get rows n ≡ Some v → v.items ≡ rows_at rows n
+at_read [] v n there = absurd cc
+at_read (r ∷ rows) v zero there = ap (λ (u : Vec FirstRow Global). u.items) (sym (same_Some r v there))
+at_read (r ∷ rows) v (suc n) there = at_read rows v n there
+
+-- behind all there are none
+pub at_beyond : (rows : List (Vec FirstRow Global)) (n : ℕ) → length rows ≤ n → rows_at rows n ≡ []
+at_beyond [] n beyond = refl
+at_beyond (r ∷ rows) zero beyond = absurd (omega (arith, beyond))
+at_beyond (r ∷ rows) (suc n) beyond = at_beyond rows n (omega (arith, beyond))
+
+-- once they are written, those of the other numbers are as before
+pub at_set : (rows : List (Vec FirstRow Global)) (w : Vec FirstRow Global) (n : ℕ) → n < length rows → rows_at (set rows n w) n ≡ w.items
+at_set [] w n within = absurd (omega (arith, within))
+at_set (r ∷ rows) w zero within = refl
+at_set (r ∷ rows) w (suc n) within = at_set rows w n (omega (arith, within))
+
+pub at_kept : (rows : List (Vec FirstRow Global)) (w : Vec FirstRow Global) (n r : ℕ) → n ≢ r → rows_at (set rows n w) r ≡ rows_at rows r
+at_kept [] w n r apart = refl
+at_kept (first ∷ rows) w zero zero apart = absurd (apart refl)
+at_kept (first ∷ rows) w zero (suc r) apart = refl
+at_kept (first ∷ rows) w (suc n) zero apart = refl
+at_kept (first ∷ rows) w (suc n) (suc r) apart = at_kept rows w n r (λ is. apart (ap suc is))
+
+-- one more without rows
+pub at_pushed : (rows : List (Vec FirstRow Global)) (w : Vec FirstRow Global) (r : ℕ) → w.items ≡ [] → rows_at rows r ≡ [] → rows_at (rows ++ w ∷ []) r ≡ []
+at_pushed [] w zero none was = none
+at_pushed [] w (suc r) none was = refl
+at_pushed (first ∷ rows) w zero none was = was
+at_pushed (first ∷ rows) w (suc r) none was = at_pushed rows w r none was
+
+-- ---- rows of places
 
 -- a place that is added with no rows changes no rows
 pub rows_pushed : (keys : List Place) (rows : List (Vec FirstRow Global)) (k : Place) (w : Vec FirstRow Global) (q : Place) → length keys ≡ length rows → w.items ≡ []

@@ -1,2 +1,3 @@
 pub mod Noted
 pub mod Rows
+pub mod Told

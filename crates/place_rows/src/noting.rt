@@ -1,5 +1,5 @@
 //! Rows that are met, noted one by one at their places.
-ghost use Rattle.std.specs.Prelude.{◌≡◌, ◌<◌, ◌++◌, ◌∷◌, [], IfOk, List as Items, OnOk, false, length, min, not, set, slice_get};
+ghost use Rattle.std.specs.Prelude.{◌≡◌, ◌<◌, ◌++◌, ◌∷◌, [], IfOk, List as Items, None, OnOk, false, length, min, not, set, slice_get};
 ghost use Rattle.std.specs.List.{position_or_len};
 ghost use Rattle.std.specs.Option.{option_map_or};
 ghost use Rattle.compare_base.specs.declared.rows.Place.{Place as PlainPlace};
@@ -7,7 +7,7 @@ ghost use Rattle.compare_base.specs.Same.{same_place, same_row};
 ghost use Rattle.pair_rows.specs.declared.values.FirstRow.{FirstRow as PlainFirst};
 ghost use Rattle.pair_rows.specs.declared.values.Met.{Met};
 ghost use Rattle.pair_rows.specs.Meetings.{AreFirst, earlier, met_if};
-ghost use Rattle.place_rows.specs.Noted.{AreNoted, rows_for};
+ghost use Rattle.place_rows.specs.Noted.{AreNoted, AreNotedAt, rows_for};
 
 use crate::row::{is_earlier, is_row};
 use compare_base::{Place, Row};
@@ -80,6 +80,24 @@ fn number_of(
     places.insert(Place { router, peer })?;
     rows.push(Vec::new(alloc))?;
     Ok(number)
+}
+
+/// Notes a row that is met at a router with a node, if some policy permits its walks. What is no router has no rows.
+pub(crate) fn note_in(
+    routers: &mut Vec<Vec<FirstRow>>,
+    at: Loc,
+    row: Row,
+    node: u32,
+) -> Result<(), NoMemory>
+    ensures size { OnOk result (length routers.new.items ≡ length routers.old.items) }
+    ensures noted { (mets : Items Met) → AreNotedAt mets routers.old.items
+        → OnOk result (AreNotedAt (mets ++ met_if (record { place = record { router = at; peer = None }; row = row; node = node })) routers.new.items) }
+{
+    let place = at.number() as usize;
+    if is_row(row) && place < routers.len() {
+        note(&mut routers[place], row, node)?;
+    }
+    Ok(())
 }
 
 /// Notes a row that is met at a place with a node, if some policy permits its walks.

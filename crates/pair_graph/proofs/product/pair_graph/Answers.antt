@@ -14,7 +14,7 @@ graph_of-requires c =
     let walks = are_walks g h in
     let after = c.add_starts.new.self in
     let told = c.in_ok-add_starts.ensures in
-    let none : after.steps.items ≡ [] = ap (λ v. v.items) told.steps ∙ c.new-growing.ensures.steps in
+    let none : after.steps.items ≡ [] = ap (λ v. v.items) told.steps ∙ c.in_ok-growing.ensures.steps in
     let start = grown_begun (walks_of g h) c.len-starts.result after.pairs.keys after.before.items after.steps.items walks told.few told.size (told.begun g h sides) c.len-starts.ensures none in
     let grown = c.in_ok-walk.ensures.grown g h c.len-starts.result sides start in
     (walks_of g h, grown.0, walks, grown.1, grown.2)
@@ -27,7 +27,7 @@ returns-clause-graph c =
     let walks = are_walks g h in
     let after = c.add_starts.new.self in
     let told = c.in_ok-add_starts.ensures in
-    let none : after.steps.items ≡ [] = ap (λ v. v.items) told.steps ∙ c.new-growing.ensures.steps in
+    let none : after.steps.items ≡ [] = ap (λ v. v.items) told.steps ∙ c.in_ok-growing.ensures.steps in
     let start = grown_begun (walks_of g h) c.len-starts.result after.pairs.keys after.before.items after.steps.items walks told.few told.size (told.begun g h sides) c.len-starts.ensures none in
     let grown = c.in_ok-walk.ensures.grown g h c.len-starts.result sides start in
     c.in_ok-graph.ensures.graph g h grown.0 walks grown.1 grown.2
@@ -40,7 +40,7 @@ returns-clause-steps c =
     let walks = are_walks g h in
     let after = c.add_starts.new.self in
     let told = c.in_ok-add_starts.ensures in
-    let none : after.steps.items ≡ [] = ap (λ v. v.items) told.steps ∙ c.new-growing.ensures.steps in
+    let none : after.steps.items ≡ [] = ap (λ v. v.items) told.steps ∙ c.in_ok-growing.ensures.steps in
     let start = grown_begun (walks_of g h) c.len-starts.result after.pairs.keys after.before.items after.steps.items walks told.few told.size (told.begun g h sides) c.len-starts.ensures none in
     let grown = c.in_ok-walk.ensures.grown g h c.len-starts.result sides start in
     let all = c.walk.new.self in
@@ -55,7 +55,7 @@ returns-in_err-walk-clause-many c = λ fault.
     let walks = are_walks g h in
     let after = c.add_starts.new.self in
     let told = c.in_ok-add_starts.ensures in
-    let none : after.steps.items ≡ [] = ap (λ v. v.items) told.steps ∙ c.new-growing.ensures.steps in
+    let none : after.steps.items ≡ [] = ap (λ v. v.items) told.steps ∙ c.in_ok-growing.ensures.steps in
     let start = grown_begun (walks_of g h) c.len-starts.result after.pairs.keys after.before.items after.steps.items walks told.few told.size (told.begun g h sides) c.len-starts.ensures none in
     let many = c.walk.ensures.many g h c.len-starts.result sides start in
     search rules

@@ -2,7 +2,7 @@ use Rattle.std.proofs.Common.{◌≡◌, ◌<◌, ◌∙◌, List, ap, arith, ge
 use Rattle.pair_graph.specs.declared.pair.NodePair.{NodePair}
 use Rattle.pair_rows.specs.declared.values.Met.{Met}
 use Rattle.pair_rows.specs.Meetings.{node_mets}
-use Rattle.place_rows.specs.Noted.{AreNoted}
+use Rattle.place_rows.specs.Noted.{AreNotedAt}
 use Rattle.place_rows.proofs.Mets.{nodes_next}
 use Rattle.place_rows.proofs.table.note_nodes.Goals as goal
 
@@ -16,8 +16,8 @@ loop-node-preserved c =
     let within : n < length pairs = omega (arith, c.loop-node-test.true, c.requires.pairs, ap length c.nodes-node-end.ensures.nodes) in
     let read : x ≡ get_or pairs n x = c.index-pairs-node.is ∙ ap (λ (xs : List NodePair). get_or xs n x) c.as_slice-pairs.ensures in
     record {
-      size = c.in_ok-note_at.ensures.size;
-      noted = λ none.
-          subst (λ (ms : List Met). AreNoted ms c.note_at.new.places.keys c.note_at.new.rows.items) (sym (nodes_next g h pairs n x _ c.row_of.result n within read refl c.row_of.ensures refl))
-          (c.in_ok-note_at.ensures.noted (node_mets g h (take n pairs) 0) (c.loop-node.invariant.noted none));
+      size = c.in_ok-note_in.ensures.size ∙ c.loop-node.invariant.size;
+      noted =
+          subst (λ (ms : List Met). AreNotedAt ms c.note_in.new.routers.items) (sym (nodes_next g h pairs n x _ c.row_of.result n within read refl c.row_of.ensures refl))
+          (c.in_ok-note_in.ensures.noted (node_mets g h (take n pairs) 0) c.loop-node.invariant.noted);
     }
