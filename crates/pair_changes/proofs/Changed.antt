@@ -1,13 +1,15 @@
 -- What is found of a pair of cases is what changes for its prefixes.
 use Rattle.std.proofs.Common.{◌≡◌, ℕ, ◌<◌, true, List, filter, sym, ap, ◌∙◌, subst, arith, None, Option, Some}
-use Rattle.std.specs.Prelude.{IsTrue, option_map, slice_get}
+use Rattle.std.specs.Prelude.{◌&&◌, IsTrue, not, option_map, slice_get}
+use Rattle.std.proofs.lemmas.Bool.{and_parts}
 use Rattle.std.proofs.lemmas.Option.{slice_get_within}
 use Rattle.list_law.specs.Members.{IsIn}
 use Rattle.list_law.proofs.Items.{slice_get_inside}
 use Rattle.list_law.proofs.Members.{IsIn-filter, IsIn-filter_parts}
 use Rattle.list_law.proofs.Options.{option_map_parts}
-use Rattle.net_base.specs.Network.{PlainNet}
+use Rattle.net_base.specs.Network.{PlainNet, is_peer, is_router}
 use Rattle.net_base.specs.Prefixes.{PlainPrefix}
+use Rattle.policy_base.specs.Governing.{is_origin_by}
 use Rattle.policy_base.specs.Policies.{PlainPolicy}
 use Rattle.graph_base.specs.Graphs.{PlainGraph}
 use Rattle.pair_graph.specs.declared.pair.NodePair.{NodePair}
@@ -16,7 +18,7 @@ use Rattle.compare_base.specs.declared.rows.Place.{Place}
 use Rattle.compare_base.specs.declared.rows.Row.{Row}
 use Rattle.compare_base.specs.declared.rows.Words.{Words}
 use Rattle.compare_base.specs.declared.cases.CasePair.{CasePair}
-use Rattle.compare_base.specs.Cases.{is_place, pair_for}
+use Rattle.compare_base.specs.Cases.{is_originated, is_place, pair_for}
 use Rattle.compare_base.specs.Ranks.{IsFirstWalk}
 use Rattle.pair_rows.specs.declared.values.FirstRow.{FirstRow}
 use Rattle.pair_rows.specs.Meetings.{AreFirst, all_mets, mets_at, rows_alone}
@@ -36,8 +38,8 @@ use Rattle.pair_changes.proofs.KindTests.{of_from, of_parts, so_parts}
 
 -- a place of a pair is a router or a session to a peer
 places_are_told : (net : PlainNet) (cases : CasePair) (r : ℕ) (peer : Option ℕ) → IsTrue (is_place net cases r peer) → IsTrue (is_told net r peer)
-places_are_told net cases r None is = search
-places_are_told net cases r (Some q) is = search
+places_are_told net cases r None is = (and_parts (is_router net r) _ (and_parts (is_router net r && not (is_origin_by net cases.old.origins r)) _ is).0).0
+places_are_told net cases r (Some q) is = (and_parts (is_originated cases && is_router net r) (is_peer net q) (and_parts (is_originated cases && is_router net r && is_peer net q) _ is).0).1
 
 module _ (net : PlainNet) (old new : PlainPolicy) (p : PlainPrefix) where
   module _ (g h both : PlainGraph) (pairs : List NodePair) (are : AreCompared net old new p g h pairs both) (firsts : Place → List FirstRow)

@@ -62,7 +62,7 @@ module _ (g : PlainGraph) (firsts : List FirstRow) (peer : Option ℕ) where
         from_peer peer (shown_walk g x.0.node) ∷ rest.0,
         record {
           count = ap suc rest.1.count;
-          each = each x.0 (x.0, x.1, x.2, shown_walk g x.0.node, shown_walk_is g entered x.0.node (within x.0 x.1), refl) rest.0 rest.1;
+          each = each x.0 (x.0, x.1, x.2, (shown_walk g x.0.node, shown_walk_is g entered x.0.node (within x.0 x.1), refl)) rest.0 rest.1;
         },
       )
     where
