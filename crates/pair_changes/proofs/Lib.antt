@@ -10,3 +10,4 @@ mod WalkLists
 mod Examples
 mod Needed
 mod Whole
+mod KindNumbers

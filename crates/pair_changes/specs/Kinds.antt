@@ -1,5 +1,5 @@
 -- Places that are grouped by how they differ.
-use Rattle.std.specs.Prelude.{◌≡◌, ℕ, ◌<◌, Bool, true, false, ◌&&◌, List, filter, option_map, slice_get, Option, Some}
+use Rattle.std.specs.Prelude.{◌≡◌, ℕ, ◌<◌, Bool, true, false, ◌&&◌, List, filter, option_map, slice_get, Option, Some, None}
 use Rattle.std.specs.Option.{option_map_or}
 use lib.Pointwise.{pointwise}
 use Rattle.list_law.specs.Members.{IsIn}
@@ -18,6 +18,13 @@ way_by rows = option_map (λ words. record { words = words; rows = shown_rows ro
 -- the kind is of places that differ so
 abbrev pub is_of : Way → Kind → Bool
 is_of way kind = same_words kind.words way.words && pointwise same_row kind.rows way.rows
+
+-- the kind with this number is of places that differ so; none is where places don't differ
+abbrev pub IsNumberOf : List Kind → Option Way → Option ℕ → Type 0
+IsNumberOf kinds (Some way) (Some n) = (kind : Kind) × (slice_get kinds n ≡ Some kind) × (is_of way kind ≡ true)
+IsNumberOf kinds (Some way) None = ⊥
+IsNumberOf kinds None (Some n) = ⊥
+IsNumberOf kinds None None = Unit {0}
 
 abbrev pub differs_so : Kind → Option Way → Bool
 differs_so kind way = option_map_or (λ w. is_of w kind) way false
