@@ -1,7 +1,8 @@
 -- The first pattern that contains a prefix stands at the least place under the prefix's first bits.
-use Rattle.std.proofs.Common.{◌≡◌, ℕ, zero, suc, ◌+◌, ◌-◌, ◌/◌, ◌^◌, ◌≤◌, Bool, true, false, List, [], ◌∷◌, refl, sym, ap, subst, ◌∙◌, arith, inl, inr, Option, Some, None}
-use Rattle.std.specs.Prelude.{◌&&◌, ◌||◌, ◌==◌, nat_le, nat_lt, if◌then◌else◌}
-use Rattle.std.proofs.lemmas.Bool.{cases_Bool, le-leb, le-ltb, leb-true, eqb-true, eq-eqb, lt-leb}
+use Rattle.std.proofs.Common.{◌≡◌, ℕ, zero, suc, ◌+◌, ◌-◌, ◌/◌, ◌^◌, ◌<◌, ◌≤◌, Bool, true, false, List, [], ◌∷◌, length, set, refl, sym, ap, subst, ◌∙◌, arith, inl, inr, Option, Some, None}
+use Rattle.std.specs.Prelude.{◌&&◌, ◌||◌, ◌==◌, nat_le, nat_lt, slice_get, if◌then◌else◌}
+use Rattle.std.proofs.lemmas.Bool.{and_parts, cases_Bool, true≢false, le-leb, le-ltb, leb-true, eqb-true, eq-eqb, lt-leb}
+use Rattle.std.proofs.lemmas.Option.{same_Some}
 use Rattle.std.proofs.Math.Bool.{and-true, and-false, and-or_distrib_left}
 use Rattle.list_law.proofs.Truth.{if_same}
 use Rattle.list_law.proofs.Numbers.{nat_lt_more, eqb_comm}
@@ -9,7 +10,7 @@ use Rattle.net_base.specs.Prefixes.{PlainPrefix, PlainPattern, contains}
 use Rattle.first_patterns.specs.declared.firsts.Stated.{Stated}
 use Rattle.first_patterns.specs.declared.table.Head.{Head}
 use Rattle.first_patterns.specs.Firsts.{first_place}
-use Rattle.first_patterns.specs.Tables.{has_head, head_of, least_place, lesser, same_head}
+use Rattle.first_patterns.specs.Tables.{AreLengths, has_head, head_of, least_place, lesser, same_head}
 
 -- a number that is k, or a later one, or missing
 data IsFrom (k : ℕ) : Option ℕ → Type 0 where
@@ -128,3 +129,35 @@ least_place-first places ts p noted =
 -- the pattern's base has these bits, and the pattern may contain prefixes of that length, which is below n
 abbrev pub has_head_below : ℕ → Head → PlainPattern → Bool
 has_head_below n h t = same_head (record { bits = t.base.bits / 2 ^ (32 - t.base.len); len = t.base.len; of = h.of }) h && (nat_le t.base.len h.of && nat_lt h.of n)
+
+-- ---- lengths
+
+-- no pattern has first bits of a length that isn't marked
+pub unmarked_head : (ts : List Stated) (lengths : List Bool) → AreLengths ts lengths → (h : Head) → slice_get lengths h.len ≡ Some false → (k : ℕ) → first_place (has_head h) ts k ≡ None
+unmarked_head [] lengths are h off k = refl
+unmarked_head (t ∷ ts) lengths are h off k = elim (cases_Bool (has_head h t.pattern)) [
+  | inl met ↦
+      let same : t.pattern.base.len ≡ h.len = len_of (record { bits = t.pattern.base.bits / 2 ^ (32 - t.pattern.base.len); len = t.pattern.base.len; of = h.of }) h (and_parts _ _ met).0 in
+      absurd (true≢false (same_Some true false (sym (are 0 t refl) ∙ ap (slice_get lengths) same ∙ off)))
+  | inr missed ↦ ap (λ b. if b then Some k else first_place (has_head h) ts (k + 1)) missed ∙ unmarked_head ts lengths (λ i u at. are (suc i) u at) h off (k + 1)
+]
+  where
+    len_of : (f g : Head) → same_head f g ≡ true → f.len ≡ g.len
+    len_of f g same = eqb-true f.len g.len (and_parts (f.len == g.len) (f.of == g.of) (and_parts (f.bits == g.bits) (f.len == g.len && f.of == g.of) same).1).0
+
+pub lesser-missing : (o : Option ℕ) (p : Option ℕ) → p ≡ None → o ≡ lesser o p
+lesser-missing None p none = sym none
+lesser-missing (Some a) p none = ap (lesser (Some a)) (sym none)
+
+-- a length is marked, and those marked before stay so
+pub marked_there : (ls : List Bool) (n : ℕ) → n < length ls → slice_get (set ls n true) n ≡ Some true
+marked_there [] n within = absurd (omega (arith, within))
+marked_there (l ∷ ls) zero within = refl
+marked_there (l ∷ ls) (suc n) within = marked_there ls n (omega (arith, within))
+
+pub still_marked : (ls : List Bool) (n k : ℕ) → slice_get ls k ≡ Some true → slice_get (set ls n true) k ≡ Some true
+still_marked [] n k at = absurd cc
+still_marked (l ∷ ls) zero zero at = refl
+still_marked (l ∷ ls) zero (suc k) at = at
+still_marked (l ∷ ls) (suc n) zero at = at
+still_marked (l ∷ ls) (suc n) (suc k) at = still_marked ls n k at

@@ -1,8 +1,9 @@
 -- Patterns by the first bits of the prefixes that they contain.
-use Rattle.std.specs.Prelude.{◌≡◌, ℕ, zero, suc, ◌-◌, ◌/◌, ◌^◌, Bool, ◌&&◌, ◌==◌, Option, Some, None, nat_le, if◌then◌else◌}
+use Rattle.std.specs.Prelude.{◌≡◌, ℕ, zero, suc, ◌-◌, ◌/◌, ◌^◌, Bool, true, ◌&&◌, ◌==◌, List, slice_get, Option, Some, None, nat_le, if◌then◌else◌}
 use Rattle.indexmap.specs.IndexMap.{get}
 use Rattle.net_base.specs.Prefixes.{PlainPrefix, PlainPattern}
 use Rattle.policy_base.specs.Policies.{PlainPolicy}
+use Rattle.first_patterns.specs.declared.firsts.Stated.{Stated}
 use Rattle.first_patterns.specs.declared.table.Head.{Head}
 use Rattle.first_patterns.specs.declared.firsts.FirstPatterns.{FirstPatterns}
 use Rattle.first_patterns.specs.Firsts.{first_place, listed}
@@ -29,7 +30,12 @@ abbrev pub least_place : (Head → Option ℕ) → PlainPrefix → ℕ → Optio
 least_place places p zero = None
 least_place places p (suc k) = lesser (least_place places p k) (places (head_of p k))
 
--- the patterns of the policy, and their places
+-- the length of each pattern's prefix is marked
+abbrev pub AreLengths : List Stated → List Bool → Type 0
+AreLengths patterns lengths = (i : ℕ) (t : Stated) → slice_get patterns i ≡ Some t → slice_get lengths t.pattern.base.len ≡ Some true
+
+-- the patterns of the policy, their places, and the lengths of their prefixes
 pub record AreFirsts (firsts : FirstPatterns) (policy : PlainPolicy) : Type 0 where
   pub patterns : firsts.patterns.items ≡ listed policy.statements 1
   pub places : (h : Head) → get same_head firsts.places h ≡ first_place (has_head h) firsts.patterns.items 1
+  pub lengths : AreLengths firsts.patterns.items firsts.lengths.items

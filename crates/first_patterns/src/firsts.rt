@@ -4,7 +4,7 @@ ghost use Rattle.std.specs.Option.{option_and_then};
 ghost use Rattle.policy_base.specs.Policies.{PlainPolicy, policy_of, plain_statement};
 ghost use Rattle.first_patterns.specs.Firsts.{first_pattern, listed, place_for, placed, stated};
 
-use crate::table::{Head, least_under, places_of};
+use crate::table::{Head, least_under, lengths_of, places_of};
 use indexmap::IndexMap;
 use input_output::NoMemory;
 use net_base::{Pattern, Prefix};
@@ -54,6 +54,7 @@ fn patterns_of(alloc: Global, policy: &Policy) -> Result<Vec<Stated>, NoMemory>
 pub struct FirstPatterns {
     patterns: Vec<Stated>,
     places: IndexMap<Head, usize>,
+    lengths: Vec<bool>,
 }
 
 impl FirstPatterns {
@@ -65,7 +66,12 @@ impl FirstPatterns {
     {
         let patterns = patterns_of(alloc, policy)?;
         let places = places_of(alloc, &patterns)?;
-        Ok(FirstPatterns { patterns, places })
+        let lengths = lengths_of(alloc, &patterns)?;
+        Ok(FirstPatterns {
+            patterns,
+            places,
+            lengths,
+        })
     }
 
     // The pattern at a place, from 1.
@@ -82,7 +88,7 @@ impl FirstPatterns {
     pub fn place(&self, prefix: Prefix) -> Option<usize>
         ensures { (policy : PlainPolicy) → AreFirsts self.now policy → result ≡ place_for policy prefix }
     {
-        least_under(&self.places, prefix)
+        least_under(&self.places, self.lengths.as_slice(), prefix)
     }
 
     /// The first pattern of the policy that contains the prefix. None exactly where no statement governs it.

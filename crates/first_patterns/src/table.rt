@@ -1,16 +1,16 @@
 //! Patterns by the first bits of the prefixes that they contain.
-ghost use Rattle.std.specs.Prelude.{◌≡◌, ◌≤◌, ◌+◌, IfOk, OnOk, Some, None, if◌then◌else◌};
+ghost use Rattle.std.specs.Prelude.{◌≡◌, ◌≤◌, ◌+◌, IfOk, OnOk, Some, None, IsTrue, false, slice_get, if◌then◌else◌};
 ghost use Rattle.std.specs.Option.{option_or};
 ghost use Rattle.indexmap.specs.IndexMap.{get};
 ghost use Rattle.first_patterns.specs.declared.table.Head.{Head as PlainHead};
 ghost use Rattle.first_patterns.specs.Firsts.{first_place};
-ghost use Rattle.first_patterns.specs.Tables.{has_head, head_of, least_place, lesser as lesser_of, same_head};
+ghost use Rattle.first_patterns.specs.Tables.{AreLengths, has_head, head_of, least_place, lesser as lesser_of, same_head};
 
 use crate::firsts::Stated;
 use indexmap::IndexMap;
 use input_output::NoMemory;
 use net_base::{Pattern, Prefix};
-use std::alloc::Global;
+use std::alloc::{AllocError, Global};
 
 /// The first `len` bits of prefixes that are `of` bits long.
 #[derive(Clone, Copy, PartialEq, Eq, Hash, Drop)]
@@ -86,13 +86,41 @@ fn lesser(a: Option<usize>, b: Option<usize>) -> Option<usize>
     }
 }
 
-/// The least place under the first bits of a prefix.
-pub(crate) fn least_under(places: &IndexMap<Head, usize>, prefix: Prefix) -> Option<usize>
-    ensures { result ≡ least_place (get same_head places.now) prefix (prefix.len + 1) }
+/// For each length from 0 to 32 whether the prefix of some pattern has it.
+pub(crate) fn lengths_of(alloc: Global, patterns: &[Stated]) -> Result<Vec<bool>, AllocError>
+    ensures { IfOk result (λ lengths. AreLengths patterns.now lengths.items) }
+{
+    let mut lengths = Vec::with_capacity(alloc, 33)?;
+    for _ in 0..33usize {
+        lengths.push(false)?;
+    }
+    for i in 0..patterns.len() {
+        lengths[patterns[i].pattern.base().len() as usize] = true;
+    }
+    Ok(lengths)
+}
+
+// Whether no pattern's prefix has this length.
+fn is_unmarked(lengths: &[bool], len: u8) -> bool
+    ensures { IsTrue result → slice_get lengths.now len ≡ Some false }
+{
+    lengths.get(len as usize) == Some(&false)
+}
+
+/// The least place under the first bits of a prefix. Bits of a length that no pattern has aren't looked up.
+pub(crate) fn least_under(
+    places: &IndexMap<Head, usize>,
+    lengths: &[bool],
+    prefix: Prefix,
+) -> Option<usize>
+    ensures { ((h : PlainHead) → slice_get lengths.now h.len ≡ Some false → get same_head places.now h ≡ None)
+        → result ≡ least_place (get same_head places.now) prefix (prefix.len + 1) }
 {
     let mut first = None;
     for len in 0..prefix.len() + 1 {
-        first = lesser(first, places.get(&first_bits(prefix, len)).copied());
+        if !is_unmarked(lengths, len) {
+            first = lesser(first, places.get(&first_bits(prefix, len)).copied());
+        }
     }
     first
 }

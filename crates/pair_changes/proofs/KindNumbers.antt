@@ -57,7 +57,7 @@ number_found kinds w n found = let k = position_parts (is_of w) kinds n found in
 pub number_begun : (kinds : List Kind) (w : Way) (k : Kind) (after : List Kind) (n : ℕ) (place : Place) → k ≡ record { words = w.words; rows = w.rows; places = place ∷ []; walks = [] }
     → after ≡ kinds ++ k ∷ [] → n ≡ length kinds → IsNumberOf after (Some w) (Some n)
 number_begun kinds w k after n place made written is = (
-    k,
-    ap (λ (ks : List Kind). slice_get ks n) written ∙ ap (slice_get (kinds ++ k ∷ [])) is ∙ slice_get-there kinds k [],
-    of_from w k (ap (λ (u : Kind). u.words) made) (ap (λ (u : Kind). u.rows) made),
-  )
+  k,
+  ap (λ (ks : List Kind). slice_get ks n) written ∙ ap (slice_get (kinds ++ k ∷ [])) is ∙ slice_get-there kinds k [],
+  of_from w k (ap (λ (u : Kind). u.words) made) (ap (λ (u : Kind). u.rows) made),
+)

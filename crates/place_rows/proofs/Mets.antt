@@ -85,10 +85,10 @@ noted_there mets met at rows v w is within there noted more r less = elim (cases
 pub noted_nowhere : (mets : List Met) (met : Met) (at : ℕ) (rows : List (Vec FirstRow Global)) → met.place ≡ router_at at → length rows ≤ at → AreNotedAt mets rows → AreNotedAt (mets ++ met ∷ []) rows
 noted_nowhere mets met at rows is beyond noted r less =
     let off : same_place met.place (router_at r) ≡ false = (
-        elim (cases_Bool (same_place met.place (router_at r))) [
-          | inl t ↦ absurd (omega (arith, beyond, less, ap (λ (q : Place). q.router) (sym is ∙ place_is met.place (router_at r) t)))
-          | inr t ↦ t
-        ]) in
+    elim (cases_Bool (same_place met.place (router_at r))) [
+      | inl t ↦ absurd (omega (arith, beyond, less, ap (λ (q : Place). q.router) (sym is ∙ place_is met.place (router_at r) t)))
+      | inr t ↦ t
+    ]) in
     subst (λ (ms : List Met). AreFirst ms (rows_at rows r))
     (sym (mets_more mets met (router_at r) ∙ ap (λ b. mets_at mets (router_at r) ++ (if b then met ∷ [] else [])) off ∙ append-nil (mets_at mets (router_at r))))
     (noted r less)
@@ -183,10 +183,10 @@ module _ (net : PlainNet) where
   untold_at (met ∷ mets) place off = elim (cases_Bool (is_told net met.place.router met.place.peer)) [
     | inl t ↦
         let apart : same_place met.place place ≡ false = (
-            elim (cases_Bool (same_place met.place place)) [
-              | inl u ↦ absurd (true≢false (sym t ∙ ap (λ (q : Place). is_told net q.router q.peer) (place_is met.place place u) ∙ off))
-              | inr u ↦ u
-            ]) in
+        elim (cases_Bool (same_place met.place place)) [
+          | inl u ↦ absurd (true≢false (sym t ∙ ap (λ (q : Place). is_told net q.router q.peer) (place_is met.place place u) ∙ off))
+          | inr u ↦ u
+        ]) in
         ap (λ (b : Bool). mets_at (if b then met ∷ told net mets else told net mets) place) t
         ∙ ap (λ (b : Bool). if b then met ∷ mets_at (told net mets) place else mets_at (told net mets) place) apart ∙ untold_at mets place off
     | inr t ↦ ap (λ (b : Bool). mets_at (if b then met ∷ told net mets else told net mets) place) t ∙ untold_at mets place off

@@ -56,7 +56,12 @@ fn note_nodes(
     let pairs = both.pairs.as_slice();
     for node in 0..both.graph.nodes().len() {
         let pair = pairs[node];
-        note_in(routers, pair.place, row_of(first, second, pair), node as u32)?;
+        note_in(
+            routers,
+            pair.place,
+            row_of(first, second, pair),
+            node as u32,
+        )?;
     }
     Ok(())
 }
@@ -122,15 +127,7 @@ impl PlaceRows {
         note_nodes(&mut routers, first, second, both)?;
         let mut places = IndexSet::new(alloc);
         let mut sessions = Vec::new(alloc);
-        note_steps(
-            alloc,
-            net,
-            &mut places,
-            &mut sessions,
-            first,
-            second,
-            both,
-        )?;
+        note_steps(alloc, net, &mut places, &mut sessions, first, second, both)?;
         Ok(PlaceRows {
             routers,
             places,

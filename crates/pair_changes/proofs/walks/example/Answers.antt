@@ -34,8 +34,8 @@ returns-then-all_paths c =
     let few : length rows ≤ paths walks = subst (λ (ws : List (List ℕ)). length rows ≤ paths ws) c.as_slice.ensures (c.all_paths.ensures c.if-all_paths.true) in
     example_enough (λ place. AreWalks g (firsts place) place.peer rows) c.args.places.now c.loop-index.index walks (omega (arith, c.loop-index-test.true)) c.loop-index.invariant
     (λ place at.
-        let theirs = walks_exist g (firsts place) place.peer c.requires.entered rows (c.requires.nodes place) (λ row. c.requires.rows place row at) in
-        (theirs.0, theirs.1, omega (arith, few, theirs.1.count, count_by-le-length is_loop_free theirs.0)))
+    let theirs = walks_exist g (firsts place) place.peer c.requires.entered rows (c.requires.nodes place) (λ row. c.requires.rows place row at) in
+    (theirs.0, theirs.1, omega (arith, few, theirs.1.count, count_by-le-length is_loop_free theirs.0)))
 
 pub loop-index-init : goal.loop-index-init
 loop-index-init c =
