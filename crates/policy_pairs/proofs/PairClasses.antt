@@ -121,6 +121,7 @@ module _ (net : PlainNet) (old new : PlainPolicy) (kept : IsPolicyOf net old) (k
   pub class_some : (p : PlainPrefix) → is_originated (pair_for old new p) ≡ false → is_governed (pair_for old new p) ≡ true → is_some (class_for old new p) ≡ true
   class_some p off on =
       ap (λ b. is_some (if b then None else some_class (place_for old p) (place_for new p))) off ∙ some_is (place_for old p) (place_for new p)
+      ∙ ap₂ (λ (a b : Bool). a || b) (sym (governed_place old p)) (sym (governed_place new p)) ∙ on
 
   -- ---- groups
 
