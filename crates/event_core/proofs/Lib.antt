@@ -1,5 +1,7 @@
 pub mod Delivered
 pub mod Loops
+pub mod Making
+pub mod Linkwise
 pub mod Opened
 pub mod Restoring
 pub mod Steps

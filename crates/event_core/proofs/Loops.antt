@@ -1,15 +1,12 @@
 -- One more neighbour, in a loop over the neighbours of a location, and all of them.
-use Rattle.std.proofs.Common.{◌≡◌, ℕ, ◌+◌, ◌<◌, ◌≤◌, Bool, List, [], ◌∷◌, ◌++◌, take, length, get_or, sym, ap, ◌∙◌, arith}
+use Rattle.std.proofs.Common.{◌≡◌, ℕ, ◌+◌, ◌<◌, ◌≤◌, List, [], ◌∷◌, ◌++◌, take, length, get_or, sym, ap, ◌∙◌, arith}
 use Rattle.std.proofs.lemmas.List.{take_all, take_more}
 use Rattle.net_base.specs.Locations.{neighbours}
 use Rattle.config_base.specs.declared.route.Route.{Route}
 use Rattle.event_base.specs.Speaking.{speakers_of}
-use Rattle.event_base.specs.World.{Speakers, World as Plain, choose_again, each_again, emptied, tell}
+use Rattle.event_base.specs.World.{Speakers, World as Plain}
 use Rattle.event_state.specs.declared.world.World.{World}
 use Rattle.event_state.specs.States.{setting, speakers, state}
-use Rattle.event_core.proofs.Steps.{each_more}
-use Rattle.event_law.proofs.Messages.{same_as_itself}
-use Rattle.event_core.proofs.Tellings.{emptied_next, some, told_next}
 
 -- what speaks and chooses in a world is told by what no event changes
 pub same_speakers : (v w : World) → setting v ≡ setting w → speakers v ≡ speakers w
@@ -34,26 +31,3 @@ module _ (before : World) (at : ℕ) {place : ℕ} {near : List ℕ} (first : ne
   all_neighbours past =
       let long : length near ≡ length (neighbours before.net.now at) = ap length first in
       take_all place (neighbours before.net.now at) (omega (arith, long, past))
-
-module _ (before mid after : World) (same : setting mid ≡ setting before) (us : List ℕ) (u : ℕ) {more : List ℕ} (one : more ≡ us ++ u ∷ []) where
-  pub tell_step : (p : ℕ → ℕ → ℕ → Bool) → state mid ≡ tell (speakers before) (some p us) (state before)
-      → state after ≡ tell (speakers mid) (p u) (state mid) → state after ≡ tell (speakers before) (some p more) (state before)
-  tell_step p so_far e =
-      step_on (λ S. tell S (p u)) mid before same so_far e
-      ∙ told_next (speakers before) same_as_itself p us u (state before)
-      ∙ ap (λ xs. tell (speakers before) (some p xs) (state before)) (sym one)
-
-  pub empty_step : (p : ℕ → ℕ → ℕ → Bool) → state mid ≡ emptied (speakers before) (some p us) (state before)
-      → state after ≡ emptied (speakers mid) (p u) (state mid) → state after ≡ emptied (speakers before) (some p more) (state before)
-  empty_step p so_far e =
-      e
-      ∙ ap (emptied (speakers before) (p u)) so_far
-      ∙ emptied_next (speakers before) p us u (state before)
-      ∙ ap (λ xs. emptied (speakers before) (some p xs) (state before)) (sym one)
-
-  pub choose_step : state mid ≡ each_again (speakers before) us (state before) → state after ≡ choose_again (speakers mid) u (state mid)
-      → state after ≡ each_again (speakers before) more (state before)
-  choose_step so_far e =
-      step_on (λ S. choose_again S u) mid before same so_far e
-      ∙ sym (each_more (speakers before) us u (state before))
-      ∙ ap (λ xs. each_again (speakers before) xs (state before)) (sym one)

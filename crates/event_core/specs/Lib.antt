@@ -1,4 +1,5 @@
 pub mod Causes
 pub mod Changes
 pub mod Followed
+pub mod Deeds
 pub mod AtOnce

@@ -1,15 +1,12 @@
-//! Changes of a world, and how they are undone.
-ghost use Rattle.std.specs.Prelude.{◌≡◌, ◌++◌, ◌∷◌, [], IsTrue, OnOk};
+//! Changes of a world, and how each is undone.
+ghost use Rattle.std.specs.Prelude.{◌≡◌, IsTrue};
 ghost use Rattle.net_base.specs.Network.{is_router, linked};
-ghost use Rattle.event_core.specs.Changes.{IsSwap, changed, is_on as is_on_net, undone, with_change};
-ghost use Rattle.event_core.specs.Followed.{Follows};
-ghost use Rattle.event_state.specs.Changes.{with_queue};
+ghost use Rattle.event_core.specs.Changes.{IsSwap, changed, is_on as is_on_net, with_change};
 ghost use Rattle.event_state.specs.States.{setting, state};
 
 use config_base::Route;
 use event_state::{Queue, World};
 use net_base::{Loc, Net};
-use std::alloc::AllocError;
 
 /// Something that stands in a world, and what is to stand there.
 #[derive(Drop)]
@@ -47,8 +44,8 @@ fn is_on(net: &Net, change: &Change) -> bool
     }
 }
 
-// Makes a change of what stands on the network, and gives the change that undoes it.
-fn put(world: &mut World<'_>, change: Change) -> Change
+/// Makes a change of what stands on the network, and gives the change that undoes it.
+pub(crate) fn put(world: &mut World<'_>, change: Change) -> Change
     requires { IsTrue (is_on_net world.old.net.now change) }
     ensures world { state world.new ≡ with_change change (state world.old) }
     ensures setting { setting world.new ≡ setting world.old }
@@ -98,57 +95,12 @@ fn put(world: &mut World<'_>, change: Change) -> Change
     }
 }
 
-/// Makes a change, and notes how it is undone.
-pub(crate) fn make(
-    world: &mut World<'_>,
-    log: &mut Vec<Change>,
-    change: Change,
-) -> Result<(), AllocError>
-    requires on { IsTrue (is_on_net world.old.net.now change) }
-    requires swap { IsSwap change }
-    ensures ok { OnOk result (state world.new ≡ with_change change (state world.old)) }
-    ensures follows { Follows log.old.items world.old log.new.items world.new }
-{
-    log.reserve(1)?;
-    let back = put(world, change);
-    log.push_reserved(back);
-    Ok(())
-}
-
-/// Queues a message, and notes that it is to be taken back.
-pub(crate) fn post(
-    world: &mut World<'_>,
-    log: &mut Vec<Change>,
-    from: Loc,
-    to: Loc,
-    message: Option<Route>,
-) -> Result<(), AllocError>
-    requires { IsTrue (linked world.old.net.now from to) }
-    ensures ok { OnOk result (state world.new ≡ with_queue from to ((state world.old).queue from to ++ message ∷ []) (state world.old)) }
-    ensures follows { Follows log.old.items world.old log.new.items world.new }
-{
-    log.reserve(1)?;
-    world.post(from, to, message)?;
-    log.push_reserved(Change::TakenBack(from, to));
-    Ok(())
-}
-
-// Undoes a change, which is passed over where nothing of it stands on the network.
-fn undo(world: &mut World<'_>, change: Change)
+/// Undoes a change, which is passed over where nothing of it stands on the network.
+pub(crate) fn undo(world: &mut World<'_>, change: Change)
     ensures world { state world.new ≡ changed world.old.net.now change (state world.old) }
     ensures setting { setting world.new ≡ setting world.old }
 {
     if is_on(world.net(), &change) {
         put(world, change);
-    }
-}
-
-/// Undoes all changes, the latest one first.
-pub(crate) fn rewind(world: &mut World<'_>, log: &mut Vec<Change>)
-    ensures world { state world.new ≡ undone world.old.net.now log.old.items (state world.old) }
-    ensures setting { setting world.new ≡ setting world.old }
-{
-    while let Some(change) = log.pop() {
-        undo(world, change);
     }
 }

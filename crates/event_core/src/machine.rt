@@ -4,8 +4,7 @@ ghost use Rattle.event_base.specs.Steps.{fault_of, step};
 ghost use Rattle.event_core.specs.Causes.{IsCause};
 ghost use Rattle.event_state.specs.States.{setting, speakers, state};
 
-use crate::change::rewind;
-use crate::events::happen;
+use crate::changing::Changing;
 use event_base::{Event, EventFault};
 use event_state::World;
 use std::alloc::Global;
@@ -26,10 +25,15 @@ pub fn apply(alloc: Global, world: &mut World<'_>, event: Event) -> Result<(), E
         return Err(fault);
     }
     let mut log = Vec::new(alloc);
-    match happen(alloc, world, &mut log, &event) {
+    let mut changing = Changing {
+        alloc,
+        world,
+        log: &mut log,
+    };
+    match changing.happen(&event) {
         Ok(()) => Ok(()),
         Err(error) => {
-            rewind(world, &mut log);
+            changing.rewind();
             Err(error.into())
         }
     }

@@ -1,137 +1,80 @@
-//! What is owed is queued.
-ghost use Rattle.std.specs.Prelude.{◌≡◌, IsTrue, OnOk};
+//! What is owed is queued, and what was on a link is forgotten.
+ghost use Rattle.std.specs.Prelude.{◌≡◌, IsTrue};
 ghost use Rattle.net_base.specs.Network.{is_location, linked};
-ghost use Rattle.event_base.specs.World.{at as is_at, emptied, is, joins, tell as told, touches};
-ghost use Rattle.event_core.specs.Followed.{Follows};
-ghost use Rattle.event_state.specs.States.{speakers, state};
+ghost use Rattle.event_base.specs.World.{emptied, is, tell as told};
+ghost use Rattle.event_core.specs.Deeds.{to_link, to_links};
+ghost use Rattle.event_core.specs.Followed.{Makes};
 
-use crate::change::{Change, make, post};
+use crate::change::Change;
+use crate::changing::Changing;
 use crate::known::known_net;
-use event_state::{Queue, World};
+use event_state::Queue;
 use net_base::Loc;
-use std::alloc::{AllocError, Global};
+use std::alloc::AllocError;
 
-/// Queues what one end of a session would now send to the other, where that differs from what it last queued.
-pub(crate) fn tell(
-    alloc: Global,
-    world: &mut World<'_>,
-    log: &mut Vec<Change>,
-    from: Loc,
-    to: Loc,
-) -> Result<(), AllocError>
-    ensures ok { OnOk result (state world.new ≡ told (speakers world.old) (is from to) (state world.old)) }
-    ensures follows { Follows log.old.items world.old log.new.items world.new }
-{
-    if !world.owes(from, to) {
-        return Ok(());
+/// What is done to a link.
+#[derive(Clone, Copy)]
+pub(crate) enum Deed {
+    /// The first end queues what is new for the second.
+    TellOther,
+    /// Each end queues what is new for the other.
+    TellBoth,
+    /// What waits there, was heard and was last queued is forgotten, both ways.
+    Forget,
+}
+
+impl<'c, 'l, 'w> Changing<'c, 'l, 'w> {
+    /// Queues what one end of a session would now send to the other, where that differs from what it last queued.
+    pub(crate) fn tell(&mut self, from: Loc, to: Loc) -> Result<(), AllocError>
+        ensures { Makes (λ net. told net (is from to)) self.old self.new result }
+    {
+        if !self.world.owes(from, to) {
+            return Ok(());
+        }
+        let message = self.world.message(self.alloc, from, to)?;
+        let noted = self.world.message(self.alloc, from, to)?;
+        self.make(Change::Queued(from, to, noted))?;
+        self.post(from, to, message)
     }
-    let message = world.message(alloc, from, to)?;
-    let noted = world.message(alloc, from, to)?;
-    make(world, log, Change::Queued(from, to, noted))?;
-    post(world, log, from, to, message)
-}
 
-/// Queues what is new on a link, both ways.
-pub(crate) fn tell_both(
-    alloc: Global,
-    world: &mut World<'_>,
-    log: &mut Vec<Change>,
-    a: Loc,
-    b: Loc,
-) -> Result<(), AllocError>
-    ensures ok { OnOk result (state world.new ≡ told (speakers world.old) (joins a b) (state world.old)) }
-    ensures follows { Follows log.old.items world.old log.new.items world.new }
-{
-    tell(alloc, world, log, a, b)?;
-    tell(alloc, world, log, b, a)
-}
-
-/// Queues what is new for the neighbours of a location.
-pub(crate) fn tell_out(
-    alloc: Global,
-    world: &mut World<'_>,
-    log: &mut Vec<Change>,
-    at: Loc,
-) -> Result<(), AllocError>
-    requires { IsTrue (is_location world.old.net.now at) }
-    ensures ok { OnOk result (state world.new ≡ told (speakers world.old) (λ a b. is_at at a) (state world.old)) }
-    ensures follows { Follows log.old.items world.old log.new.items world.new }
-{
-    known_net(world);
-    for place in 0..world.neighbours(at).len() {
-        let to = world.neighbours(at)[place];
-        tell(alloc, world, log, at, to)?;
+    // Empties a direction of a link, and forgets what was heard and last queued there.
+    fn forget(&mut self, from: Loc, to: Loc) -> Result<(), AllocError>
+        requires { IsTrue (linked self.old.world.now.net.now from to) }
+        ensures { Makes (λ net. emptied net (is from to)) self.old self.new result }
+    {
+        self.make(Change::Waiting(from, to, Queue::new(self.alloc)))?;
+        self.make(Change::Heard(from, to, None))?;
+        self.make(Change::Queued(from, to, None))
     }
-    Ok(())
-}
 
-/// Queues what is new on each link of a location, both ways.
-pub(crate) fn tell_around(
-    alloc: Global,
-    world: &mut World<'_>,
-    log: &mut Vec<Change>,
-    at: Loc,
-) -> Result<(), AllocError>
-    requires { IsTrue (is_location world.old.net.now at) }
-    ensures ok { OnOk result (state world.new ≡ told (speakers world.old) (touches at) (state world.old)) }
-    ensures follows { Follows log.old.items world.old log.new.items world.new }
-{
-    known_net(world);
-    for place in 0..world.neighbours(at).len() {
-        let other = world.neighbours(at)[place];
-        tell_both(alloc, world, log, at, other)?;
+    /// Does it to a link.
+    pub(crate) fn to_link(&mut self, deed: Deed, a: Loc, b: Loc) -> Result<(), AllocError>
+        requires { IsTrue (linked self.old.world.now.net.now a b) }
+        ensures { Makes (to_link deed a b) self.old self.new result }
+    {
+        match deed {
+            Deed::TellOther => self.tell(a, b),
+            Deed::TellBoth => {
+                self.tell(a, b)?;
+                self.tell(b, a)
+            }
+            Deed::Forget => {
+                self.forget(a, b)?;
+                self.forget(b, a)
+            }
+        }
     }
-    Ok(())
-}
 
-// Empties a direction of a link, and forgets what was heard and last queued there.
-fn forget(
-    alloc: Global,
-    world: &mut World<'_>,
-    log: &mut Vec<Change>,
-    from: Loc,
-    to: Loc,
-) -> Result<(), AllocError>
-    requires { IsTrue (linked world.old.net.now from to) }
-    ensures ok { OnOk result (state world.new ≡ emptied (speakers world.old) (is from to) (state world.old)) }
-    ensures follows { Follows log.old.items world.old log.new.items world.new }
-{
-    make(world, log, Change::Waiting(from, to, Queue::new(alloc)))?;
-    make(world, log, Change::Heard(from, to, None))?;
-    make(world, log, Change::Queued(from, to, None))
-}
-
-/// Empties and forgets a link, both ways.
-pub(crate) fn forget_both(
-    alloc: Global,
-    world: &mut World<'_>,
-    log: &mut Vec<Change>,
-    a: Loc,
-    b: Loc,
-) -> Result<(), AllocError>
-    requires { IsTrue (linked world.old.net.now a b) }
-    ensures ok { OnOk result (state world.new ≡ emptied (speakers world.old) (joins a b) (state world.old)) }
-    ensures follows { Follows log.old.items world.old log.new.items world.new }
-{
-    forget(alloc, world, log, a, b)?;
-    forget(alloc, world, log, b, a)
-}
-
-/// Empties and forgets each link of a location, both ways.
-pub(crate) fn forget_around(
-    alloc: Global,
-    world: &mut World<'_>,
-    log: &mut Vec<Change>,
-    at: Loc,
-) -> Result<(), AllocError>
-    requires { IsTrue (is_location world.old.net.now at) }
-    ensures ok { OnOk result (state world.new ≡ emptied (speakers world.old) (touches at) (state world.old)) }
-    ensures follows { Follows log.old.items world.old log.new.items world.new }
-{
-    known_net(world);
-    for place in 0..world.neighbours(at).len() {
-        let other = world.neighbours(at)[place];
-        forget_both(alloc, world, log, at, other)?;
+    /// Does it to each link of a location, of which that is the first end.
+    pub(crate) fn to_links(&mut self, deed: Deed, at: Loc) -> Result<(), AllocError>
+        requires { IsTrue (is_location self.old.world.now.net.now at) }
+        ensures { Makes (to_links deed at) self.old self.new result }
+    {
+        known_net(self.world);
+        for place in 0..self.world.neighbours(at).len() {
+            let other = self.world.neighbours(at)[place];
+            self.to_link(deed, at, other)?;
+        }
+        Ok(())
     }
-    Ok(())
 }

@@ -1,6 +1,9 @@
 mod FirstStatements
 mod CaseKinds
 mod PairFacts
+mod PairClasses
+mod FrontPairs
+mod BackPairs
 mod FoundPairs
 mod GroupTurns
 mod OtherPrefixes

@@ -1,0 +1,5 @@
+use Rattle.event_core.proofs.Making.{makes_then}
+use Rattle.event_core.proofs.changing.Changing.fall.Goals as goal
+
+pub returns : goal.returns
+returns c = makes_then c.in_ok-make.ensures c.make-2.ensures

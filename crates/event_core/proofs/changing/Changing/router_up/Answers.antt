@@ -1,0 +1,5 @@
+use Rattle.event_core.proofs.Making.{makes_then}
+use Rattle.event_core.proofs.changing.Changing.router_up.Goals as goal
+
+pub returns : goal.returns
+returns c = makes_then (makes_then c.in_ok-fall.ensures c.in_ok-choose_again.ensures) c.to_links.ensures
