@@ -3,8 +3,8 @@
 //!
 //! The two graphs of a pair show what the policies say of the walks of each of its prefixes (`specs/Shown`), so what changes is read off
 //! the graph of their pairs of nodes. Each place has its rows (`place_rows`), and these have words and shown rows (`row_words`). Places
-//! with the same of both are one kind (`kinds`). A kind shows the walks of one of its places, since two walks of different sources tell no
-//! order: of the first place that shows most rows without a loop (`example`). So what changes is one thing, with its walks.
+//! with the same of both are one kind (`kinds`); mostly those of many places one after the other are the same. A kind shows the walks of one of its places, since two walks of different sources tell no
+//! order: of the first place that shows most rows without a loop, which mostly is the first one (`example`). So what changes is one thing, with its walks.
 //!
 //! Which routers carry is read off the nodes of either graph: each node of a trimmed graph is on some permitted walk (`carriers`).
 //!
